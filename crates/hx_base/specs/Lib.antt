@@ -1,0 +1,4 @@
+pub mod Rows
+pub mod Pixels
+pub mod FileWords
+pub mod Refusals

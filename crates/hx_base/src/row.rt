@@ -1,0 +1,52 @@
+ghost use Rattle.std.specs.Prelude.{◌≡◌, ◌↔◌, IsTrue};
+ghost use Rattle.std.specs.Prelude.{◌*◌, ◌+◌, ◌^◌, ◌<◌, ◌≤◌};
+ghost use Rattle.std.specs.Int.RustNames.{unsigned_abs};
+ghost use Rattle.hx_base.specs.Rows.{IsGood, square};
+
+/// A row of a catalogue: the place of a source on the sky, its number, and its unit vector.
+///
+/// Rows are ordered by `hp`, then `id`, `x`, `y` and `z`.
+#[derive(Clone, Copy, Debug, PartialEq, Eq, PartialOrd, Ord)]
+pub struct Row {
+    /// The nested number of the order-29 pixel that holds the source (the column `_healpix_29`).
+    pub hp: u64,
+    /// The source's number (the column `id`).
+    pub id: i64,
+    /// The unit vector's coordinates, in 10^-9 (the columns `cx`, `cy`, `cz`).
+    pub x: i32,
+    pub y: i32,
+    pub z: i32,
+}
+
+// One more than the greatest pixel of order 29: twelve faces of 4^29.
+const PIXELS_29: u64 = 12 << 58;
+
+// The squared length of a unit vector, in 10^-18.
+const UNIT: u64 = 1_000_000_000_000_000_000;
+
+// By how much rounding or truncation may change it.
+const TOLERANCE: u64 = 4_000_000_000;
+
+fn squared(a: i32) -> u64
+    ensures { result ≡ square a }
+{
+    let magnitude = u64::from(a.unsigned_abs());
+    magnitude * magnitude
+}
+
+fn is_about_one(squared_length: u64) -> bool
+    requires { squared_length ≤ 3 * 2 ^ 62 }
+    ensures { IsTrue result ↔ ((squared_length ≤ 10 ^ 18 + 4 * 10 ^ 9) × (10 ^ 18 ≤ squared_length + 4 * 10 ^ 9)) }
+{
+    squared_length <= UNIT + TOLERANCE && UNIT <= squared_length + TOLERANCE
+}
+
+impl Row {
+    /// Whether the pixel is one of order 29 and the vector is of unit length, up to rounding.
+    pub fn is_good(&self) -> bool
+        ensures { IsTrue result ↔ IsGood self.now }
+    {
+        let squared_length = squared(self.x) + squared(self.y) + squared(self.z);
+        self.hp < PIXELS_29 && is_about_one(squared_length)
+    }
+}
