@@ -86,3 +86,45 @@ impl FileWord {
         self.text.as_str()
     }
 }
+
+#[cfg(test)]
+mod tests {
+    use super::*;
+    use std::test::Fail;
+
+    #[test]
+    fn file_words(rt: HostRuntime) -> Result<(), Fail> {
+        let cases = [
+            ("a.csv", true),
+            (".csv", true),
+            ("dir/a b.csv", true),
+            ("é.parquet", true),
+            ("", false),
+            ("-.csv", false),
+            ("a.txt", false),
+            ("a.CSV", false),
+            ("a\t.csv", false),
+            ("a\x7F.csv", false),
+        ];
+        for (text, is_word) in cases {
+            let word = FileWord::new(rt.alloc(), text)?;
+            assert_eq!(rt; word.is_some(), is_word, "{text:?}");
+        }
+        let word = FileWord::new(rt.alloc(), "a.csv")?.ok_or("no word")?;
+        assert_eq!(rt; word.as_str(), "a.csv");
+        Ok(())
+    }
+
+    #[test]
+    fn longest_file_word(rt: HostRuntime) -> Result<(), Fail> {
+        let mut text = String::new(rt.alloc());
+        for _ in 0..251 {
+            text.push('a')?;
+        }
+        text.push_str(".csv")?;
+        assert!(rt; FileWord::new(rt.alloc(), text.as_str())?.is_some());
+        text.push_str(".csv")?;
+        assert!(rt; FileWord::new(rt.alloc(), text.as_str())?.is_none());
+        Ok(())
+    }
+}

@@ -106,3 +106,27 @@ impl Refusal {
         }
     }
 }
+
+#[cfg(test)]
+mod tests {
+    use super::*;
+
+    #[test]
+    fn statuses(rt: HostRuntime) {
+        let damaged = Refusal::Damaged {
+            side: 1,
+            file: JobFile::Part(3),
+            place: 7,
+        };
+        let cases = [
+            (Refusal::Usage, 1),
+            (Refusal::SinkFault, 7),
+            (Refusal::Memory, 8),
+            (damaged, 11),
+            (Refusal::NameTaken, 14),
+        ];
+        for (refusal, status) in cases {
+            assert_eq!(rt; refusal.status(), status, "{refusal:?}");
+        }
+    }
+}

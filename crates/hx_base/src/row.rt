@@ -1,7 +1,7 @@
 ghost use Rattle.std.specs.Prelude.{◌≡◌, ◌↔◌, IsTrue};
 ghost use Rattle.std.specs.Prelude.{◌*◌, ◌+◌, ◌^◌, ◌<◌, ◌≤◌};
 ghost use Rattle.std.specs.Int.RustNames.{unsigned_abs};
-ghost use Rattle.hx_base.specs.Rows.{IsGood, square};
+ghost use Rattle.hx_base.specs.Rows.{IsGood, row_cmp, square};
 
 /// A row of a catalogue: the place of a source on the sky, its number, and its unit vector.
 ///
@@ -48,5 +48,56 @@ impl Row {
     {
         let squared_length = squared(self.x) + squared(self.y) + squared(self.z);
         self.hp < PIXELS_29 && is_about_one(squared_length)
+    }
+}
+
+#[cfg(test)]
+mod tests {
+    use super::*;
+    use std::cmp::Ordering;
+
+    fn at(hp: u64, x: i32, y: i32, z: i32) -> Row {
+        Row { hp, id: 1, x, y, z }
+    }
+
+    // The derived order is that of the definition.
+    fn compared(a: &Row, b: &Row) -> Ordering
+        ensures { result ≡ row_cmp a.now b.now }
+    {
+        a.cmp(b)
+    }
+
+    #[test]
+    fn good_rows(rt: HostRuntime) {
+        let cases = [
+            (at(0, 1_000_000_000, 0, 0), true),
+            (at(0, 1_000_000_001, 0, 0), true),
+            (at(0, 1_000_000_002, 0, 0), false),
+            (at(0, 999_999_998, 0, 0), true),
+            (at(0, 999_999_997, 0, 0), false),
+            (at(0, 600_000_000, 800_000_000, 0), true),
+            (at(0, 0, -600_000_000, -800_000_000), true),
+            (at(0, 0, 0, 0), false),
+            (at(3_458_764_513_820_540_927, 0, 0, 1_000_000_000), true),
+            (at(3_458_764_513_820_540_928, 0, 0, 1_000_000_000), false),
+        ];
+        for (row, good) in cases {
+            assert_eq!(rt; row.is_good(), good, "{row:?}");
+        }
+    }
+
+    #[test]
+    fn order_goes_by_the_fields(rt: HostRuntime) {
+        let rows = [
+            at(0, 5, 9, 9),
+            at(0, 6, 0, 9),
+            at(0, 6, 1, 0),
+            at(0, 6, 1, 1),
+            at(1, 0, 0, 0),
+        ];
+        for i in 0..4 {
+            assert_eq!(rt; compared(&rows[i], &rows[i + 1]), Ordering::Less);
+            assert_eq!(rt; compared(&rows[i + 1], &rows[i]), Ordering::Greater);
+        }
     }
 }

@@ -97,3 +97,23 @@ impl Store for NoStore {
         self.fail()
     }
 }
+
+#[cfg(test)]
+mod tests {
+    use super::*;
+
+    #[test]
+    fn every_call_fails(rt: HostRuntime) {
+        let mut store = NoStore::new();
+        let mut buf = [0u8; 4];
+        assert_eq!(rt; store.len("a"), Err(StoreError::Failed));
+        assert_eq!(rt; store.read("a", 0, &mut buf), Err(StoreError::Failed));
+        assert_eq!(rt; store.append("a", b"x"), Err(StoreError::Failed));
+        assert_eq!(rt; store.sync("a"), Err(StoreError::Failed));
+        assert_eq!(rt; store.set_byte("a", 0, 1), Err(StoreError::Failed));
+        assert_eq!(rt; store.cut("a", 0), Err(StoreError::Failed));
+        assert_eq!(rt; store.rename("a", "b"), Err(StoreError::Failed));
+        assert_eq!(rt; store.remove("a"), Err(StoreError::Failed));
+        assert_eq!(rt; store.faults, 8);
+    }
+}
