@@ -1,0 +1,9 @@
+pub mod Numbers
+pub mod Sources
+pub mod Requests
+pub mod Answered
+pub mod HistPairs
+pub mod HistPowers
+pub mod HistCounts
+pub mod HistText
+pub mod HistChildren

@@ -1,0 +1,6 @@
+pub mod Histograms
+pub mod Words
+pub mod Runs
+pub mod FirstRefusal
+pub mod Requests
+pub mod Inputs

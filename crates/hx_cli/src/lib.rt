@@ -1,0 +1,15 @@
+//! What `hats` does, from the words of the command line to the text that it prints.
+#![tactic(auto)]
+
+mod counting;
+mod hist;
+mod input;
+mod lines;
+mod names;
+mod run;
+#[cfg(test)]
+mod tests;
+mod words;
+
+pub use names::input_names;
+pub use run::{Ran, run_plain};

@@ -1,0 +1,167 @@
+//! The top call: a command line, done over its inputs.
+ghost use Rattle.std.specs.Prelude.{◌≡◌, ◌≢◌, ◌↔◌, List, ℕ, Err, IfErr, IfOk, IfSome, IsOkAnd, Some, map, string_bytes};
+ghost use Rattle.hx_base.specs.Refusals.{status_after};
+ghost use Rattle.hx_base.specs.declared.refusal.Refusal.TheVariants.{BadInput, SinkFault, Usage};
+ghost use Rattle.hx_outside.specs.Faults.{Rose};
+ghost use Rattle.hx_outside.specs.Sinks.{Appends};
+ghost use Rattle.hx_cli.specs.FirstRefusal.{IsExactly, IsFirstRefusal};
+ghost use Rattle.hx_cli.specs.Requests.{IsHistogramRequest, IsSound, command_of};
+ghost use Rattle.hx_cli.specs.Runs.{Gains, IsCaused, IsCommandCause, IsOutput, IsTextOf, Prints, SameSources, Tell};
+ghost use Rattle.hx_cli.specs.Words.{AreInputNames, HasMeaning, HasNoMeaning, Histogram};
+
+use crate::counting::histogram_lines;
+use crate::input::read_input;
+use crate::words::{Request, request_of};
+use hx_base::Refusal;
+use hx_outside::{Sink, Source, Store};
+use std::alloc::Global;
+
+/// How a run ended, with what was handed in.
+#[derive(Drop)]
+pub struct Ran<Src, S> {
+    /// 0, or the refusal's status.
+    pub status: u8,
+    pub refusal: Option<Refusal>,
+    /// The inputs in their order.
+    pub inputs: Vec<Src>,
+    pub store: S,
+}
+
+// The text of a histogram of one input's rows.
+fn histogram<Src: Source>(
+    alloc: Global,
+    order: u8,
+    inputs: &mut Vec<Src>,
+) -> Result<Vec<u8>, Refusal>
+    requires { IsHistogramRequest order (map Src.label inputs.old.items) }
+    ensures text { let names = map Src.label inputs.old.items in
+        (bytes : List (List ℕ)) → Tell Src.told inputs.old.items bytes →
+        IfOk result (λ text. IsTextOf (Histogram order names) names bytes text.items) }
+    ensures same { SameSources Src.told Src.label Src.faults inputs.old.items inputs.new.items }
+    ensures cause { IfErr result
+        (IsCommandCause Src.told Src.label Src.faults inputs.old.items inputs.new.items) }
+{
+    let source = &mut inputs[0];
+    let rows = read_input(alloc, source, 0)?;
+    match histogram_lines(alloc, order, rows.as_slice()) {
+        Ok(text) => Ok(text),
+        Err(_) => Err(Refusal::Memory),
+    }
+}
+
+// The text that a request asks for.
+fn answer<Src: Source>(
+    alloc: Global,
+    request: Request,
+    inputs: &mut Vec<Src>,
+) -> Result<Vec<u8>, Refusal>
+    requires { IsSound request (map Src.label inputs.old.items) }
+    ensures text { let names = map Src.label inputs.old.items in
+        (bytes : List (List ℕ)) → Tell Src.told inputs.old.items bytes →
+        IfOk result (λ text. IsTextOf (command_of request names) names bytes text.items) }
+    ensures same { SameSources Src.told Src.label Src.faults inputs.old.items inputs.new.items }
+    ensures cause { IfErr result
+        (IsCommandCause Src.told Src.label Src.faults inputs.old.items inputs.new.items) }
+{
+    match request {
+        Request::Histogram { order } => histogram(alloc, order, inputs),
+    }
+}
+
+// The text that a line asks for.
+fn answer_line<Src: Source>(
+    alloc: Global,
+    words: &[String],
+    inputs: &mut Vec<Src>,
+) -> Result<Vec<u8>, Refusal>
+    requires { AreInputNames (map string_bytes words.now) (map Src.label inputs.old.items) }
+    ensures text { let names = map Src.label inputs.old.items in
+        (bytes : List (List ℕ)) → Tell Src.told inputs.old.items bytes →
+        IfOk result (λ text. IsOutput (map string_bytes words.now) names bytes text.items) }
+    ensures usage { (result ≡ Err Usage) ↔ HasNoMeaning (map string_bytes words.now) }
+    ensures meant { result ≢ Err Usage → HasMeaning (map string_bytes words.now) }
+    ensures same { SameSources Src.told Src.label Src.faults inputs.old.items inputs.new.items }
+    ensures cause { IfErr result (λ r. r ≢ Usage →
+        IsCommandCause Src.told Src.label Src.faults inputs.old.items inputs.new.items r) }
+{
+    match request_of(words) {
+        None => Err(Refusal::Usage),
+        Some(request) => answer(alloc, request, inputs),
+    }
+}
+
+// Writes the text of an answer, whole.
+fn print<O: Sink>(out: &mut O, answered: Result<Vec<u8>, Refusal>) -> Option<Refusal>
+    requires { answered ≢ Err SinkFault }
+    ensures outcome { Prints answered result }
+    ensures output { IfSome (O.written out.old) (λ before.
+        Gains (λ text. IsOkAnd answered (λ t. text ≡ t.items)) before (O.written out.new) result) }
+    ensures cause { result ≡ Some SinkFault → Rose (O.faults out.old) (O.faults out.new) }
+{
+    match answered {
+        Ok(text) => match out.write(text.as_slice()) {
+            Ok(()) => None,
+            Err(_) => Some(Refusal::SinkFault),
+        },
+        Err(refusal) => Some(refusal),
+    }
+}
+
+fn status_of(refusal: Option<Refusal>) -> u8
+    ensures { result ≡ status_after refusal }
+{
+    match refusal {
+        None => 0,
+        Some(refusal) => refusal.status(),
+    }
+}
+
+/// Does what the words after the program's name ask for, over the inputs that they name, and writes the
+/// text to the sink. It always returns, and takes one worker whatever the words say.
+pub fn run_plain<Src: Source, S: Store, O: Sink>(
+    alloc: Global,
+    words: &[String],
+    mut inputs: Vec<Src>,
+    store: S,
+    out: &mut O,
+) -> Ran<Src, S>
+    // The inputs' names are the file words of the line.
+    requires { AreInputNames (map string_bytes words.now) (map Src.label inputs.items) }
+
+    // The inputs come back in their order, each with its name and bytes, and no count fell.
+    ensures inputs { SameSources Src.told Src.label Src.faults inputs.items result.inputs.items }
+
+    ensures status { result.status ≡ status_after result.refusal }
+
+    // Usage exactly where the words have no meaning.
+    ensures usage { (result.refusal ≡ Some Usage) ↔ HasNoMeaning (map string_bytes words.now) }
+
+    // Where the sources tell: BadInput exactly where an input has a fault, and it is the first.
+    ensures bad_input { let names = map Src.label inputs.items in
+        (bytes : List (List ℕ)) → Tell Src.told inputs.items bytes → (input row why : ℕ) →
+        IsExactly result.refusal (BadInput input row why)
+        (IsFirstRefusal (map string_bytes words.now) names bytes (BadInput input row why)) }
+
+    // Each refusal has its cause.
+    ensures cause { IfSome result.refusal
+        (IsCaused Src.told Src.label Src.faults (map string_bytes words.now)
+        inputs.items result.inputs.items (O.faults out.old) (O.faults out.new)) }
+
+    // Where the sink tells: it has gained the text, or a front of it where it failed, or nothing.
+    ensures output { let names = map Src.label inputs.items in
+        let IsText = λ (text : List ℕ). (bytes : List (List ℕ)) → Tell Src.told inputs.items bytes →
+        IsOutput (map string_bytes words.now) names bytes text in
+        IfSome (O.written out.old) (λ before.
+        Gains IsText before (O.written out.new) result.refusal) }
+
+    ensures store { result.store ≡ store }
+{
+    let answered = answer_line(alloc, words, &mut inputs);
+    let refusal = print(out, answered);
+    Ran {
+        status: status_of(refusal),
+        refusal,
+        inputs,
+        store,
+    }
+}

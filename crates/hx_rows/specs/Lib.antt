@@ -1,0 +1,5 @@
+pub mod Csv
+pub mod Headers
+pub mod Numbers
+pub mod Reading
+pub mod Unread

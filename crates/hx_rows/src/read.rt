@@ -1,0 +1,25 @@
+ghost use Rattle.std.specs.Prelude.{IfOk, All};
+ghost use Rattle.hx_base.specs.Rows.{IsGood};
+ghost use Rattle.hx_base.specs.FileWords.{IsCsvName};
+ghost use Rattle.hx_rows.specs.Reading.{Reads, rows_of};
+
+use crate::table::csv_rows;
+use hx_base::Row;
+use std::alloc::Global;
+
+/// Why an input could not be read as rows.
+#[derive(Clone, Copy, Debug, PartialEq, Eq)]
+pub enum RowRefusal {
+    Memory,
+    /// The first fault: its row (from 1; 0 is the file as a whole) and its number.
+    Bad { row: u64, why: u8 },
+}
+
+/// The rows of an input, in its order, or its first fault.
+pub fn read_rows(alloc: Global, name: &str, bytes: &[u8]) -> Result<Vec<Row>, RowRefusal>
+    requires { IsCsvName name.now }
+    ensures exact { Reads result (rows_of name.now bytes.now) }
+    ensures good { IfOk result (λ rows. All IsGood rows.items) }
+{
+    csv_rows(alloc, bytes)
+}
