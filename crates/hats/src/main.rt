@@ -4,22 +4,21 @@
 
 mod file_source;
 mod out_sink;
-mod texts;
 
 ghost use Rattle.std.specs.Prelude.{◌≡◌, IfOk, map, string_bytes};
 ghost use Rattle.hats.specs.Files.{path_of};
 
 use file_source::FileSource;
 use hx_base::Refusal;
-use hx_cli::{input_names, run_plain};
+use hx_cli::{input_names, run_plain, text_of};
 use hx_outside::NoStore;
 use out_sink::OutSink;
 use std::alloc::{AllocError, Global};
 use std::env;
 use std::fs::File;
+use std::io::Write;
 use std::process::ExitCode;
 use std::rt::{Env, Files};
-use texts::text_of;
 
 // The words after the program's name. A word that isn't UTF-8 makes a faulty command line.
 fn words(rt: &HostRuntime, alloc: Global) -> Result<Vec<String>, Refusal> {
@@ -68,19 +67,22 @@ fn run(rt: &HostRuntime, alloc: Global) -> Option<Refusal> {
     run_plain(alloc, words.as_slice(), inputs, NoStore::new(), &mut out).refusal
 }
 
+// Prints a refusal's text and ends with its status.
+fn refuse(rt: &HostRuntime, alloc: Global, refusal: Refusal) -> ExitCode {
+    let Ok(text) = text_of(alloc, &refusal) else {
+        let _ = eprintln!(rt; "out of memory");
+        return ExitCode::from(Refusal::Memory.status());
+    };
+    let mut errors = rt.stderr();
+    let _ = errors.write_all(text.as_slice());
+    let _ = errors.write_all(b"\n");
+    ExitCode::from(refusal.status())
+}
+
 fn main(rt: HostRuntime) -> ExitCode {
     let alloc = rt.alloc();
-    let Some(refusal) = run(&rt, alloc) else {
-        return ExitCode::from(0);
-    };
-    match text_of(alloc, &refusal) {
-        Ok(text) => {
-            let _ = eprintln!(rt; "{text}");
-            ExitCode::from(refusal.status())
-        }
-        Err(_) => {
-            let _ = eprintln!(rt; "out of memory");
-            ExitCode::from(Refusal::Memory.status())
-        }
+    match run(&rt, alloc) {
+        None => ExitCode::from(0),
+        Some(refusal) => refuse(&rt, alloc, refusal),
     }
 }

@@ -4,3 +4,4 @@ pub mod Runs
 pub mod FirstRefusal
 pub mod Requests
 pub mod Inputs
+pub mod Texts

@@ -9,7 +9,9 @@ mod names;
 mod run;
 #[cfg(test)]
 mod tests;
+mod texts;
 mod words;
 
 pub use names::input_names;
 pub use run::{Ran, run_plain};
+pub use texts::text_of;

@@ -1,21 +1,20 @@
 //! The top call over sources and sinks in memory. The expected texts are counted by hand.
-mod fakes;
+mod slow;
 
 ghost use Rattle.std.specs.Prelude.{◌≡◌, ◌<◌, IfOk, map, string_bytes};
-ghost use Rattle.hx_cli.specs.declared.tests.fakes.FakeSource.{FakeSource};
+ghost use Rattle.hx_mem.specs.Sources.{Memory};
+ghost use Rattle.hx_cli.specs.declared.tests.slow.Slow.{Slow};
 
-use crate::{input_names, run_plain};
-use fakes::{FakeSink, FakeSource};
-use hx_base::Refusal;
+use crate::{input_names, run_plain, text_of};
+use hx_base::{JobFile, Refusal};
+use hx_mem::{MemSink, MemSource};
 use hx_outside::NoStore;
+use slow::Slow;
 use std::alloc::{AllocError, Global};
 use std::test::Fail;
 
 // Reads give all bytes that are left.
 const ALL: usize = 1 << 40;
-
-// No call fails.
-const NEVER: u64 = u64::MAX;
 
 // What a run gave and wrote.
 #[derive(Drop)]
@@ -25,30 +24,49 @@ struct Shown {
     written: Vec<u8>,
 }
 
+// A source of these bytes, of which a read gives at most so many, with these calls to fail.
+fn source(
+    alloc: Global,
+    name: &str,
+    bytes: &[u8],
+    most: usize,
+    failing: &[u64],
+) -> Result<Slow<MemSource>, AllocError>
+    requires { 0 < most }
+    ensures { IfOk result (λ source. source.inner.name ≡ name.now) }
+{
+    let mut inner = MemSource::new(alloc, name, bytes)?;
+    inner.fail_calls(failing)?;
+    Ok(Slow { inner, most })
+}
+
+// Such a source for each name.
 fn sources(
     alloc: Global,
     names: &[String],
     bytes: &[u8],
     most: usize,
-    failing: u64,
-) -> Result<Vec<FakeSource>, AllocError>
+    failing: &[u64],
+) -> Result<Vec<Slow<MemSource>>, AllocError>
     requires { 0 < most }
-    ensures { IfOk result (λ sources. map (λ (source : FakeSource). string_bytes source.name) sources.items ≡ map string_bytes names.now) }
+    ensures { IfOk result (λ sources.
+        map (λ (source : Slow Memory). source.inner.name) sources.items ≡ map string_bytes names.now) }
 {
     let mut sources = Vec::new(alloc);
     for name in names {
-        sources.push(FakeSource::new(alloc, name.as_str(), bytes, most, failing)?)?;
+        sources.push(source(alloc, name.as_str(), bytes, most, failing)?)?;
     }
     Ok(sources)
 }
 
+// Runs a line over such sources and a sink of so much room.
 fn run_over(
     alloc: Global,
     line: &str,
     bytes: &[u8],
     most: usize,
-    failing: u64,
-    broken: bool,
+    failing: &[u64],
+    room: usize,
 ) -> Result<Shown, AllocError>
     requires { 0 < most }
 {
@@ -58,13 +76,17 @@ fn run_over(
     }
     let names = input_names(alloc, words.as_slice())?;
     let inputs = sources(alloc, names.as_slice(), bytes, most, failing)?;
-    let mut out = FakeSink::new(alloc, broken);
+    let mut out = MemSink::new(alloc, room)?;
     let ran = run_plain(alloc, words.as_slice(), inputs, NoStore::new(), &mut out);
     Ok(Shown {
         status: ran.status,
         refusal: ran.refusal,
-        written: out.written().to_vec(alloc)?,
+        written: out.bytes().to_vec(alloc)?,
     })
+}
+
+fn run(alloc: Global, line: &str, bytes: &[u8]) -> Result<Shown, AllocError> {
+    run_over(alloc, line, bytes, ALL, &[], 100)
 }
 
 #[test]
@@ -115,7 +137,7 @@ fn counts(rt: HostRuntime) -> Result<(), Fail> {
         ("histogram 0 a.csv", b"id,_healpix_29,cx,cy,cz\n", b""),
     ];
     for (line, bytes, text) in cases {
-        let shown = run_over(rt.alloc(), line, bytes, ALL, NEVER, false)?;
+        let shown = run(rt.alloc(), line, bytes)?;
         assert_eq!(rt; shown.refusal, None, "{line}");
         assert_eq!(rt; shown.status, 0, "{line}");
         assert_eq!(rt; shown.written.as_slice(), text, "{line}");
@@ -147,7 +169,7 @@ fn bad_inputs(rt: HostRuntime) -> Result<(), Fail> {
         (b"id,_healpix_29,cx,cy,cz\n 5,0,1000000000,0,0\n", 1, 4),
     ];
     for (bytes, row, why) in cases {
-        let shown = run_over(rt.alloc(), "histogram 0 a.csv", bytes, ALL, NEVER, false)?;
+        let shown = run(rt.alloc(), "histogram 0 a.csv", bytes)?;
         let refusal = Refusal::BadInput { input: 0, row, why };
         assert_eq!(rt; shown.refusal, Some(refusal));
         assert_eq!(rt; shown.status, 2);
@@ -177,7 +199,7 @@ fn lines_without_a_meaning(rt: HostRuntime) -> Result<(), Fail> {
         "around 0 0",
     ];
     for line in lines {
-        let shown = run_over(rt.alloc(), line, b"", ALL, NEVER, false)?;
+        let shown = run(rt.alloc(), line, b"")?;
         assert_eq!(rt; shown.refusal, Some(Refusal::Usage), "{line}");
         assert_eq!(rt; shown.status, 1, "{line}");
     }
@@ -188,18 +210,101 @@ fn lines_without_a_meaning(rt: HostRuntime) -> Result<(), Fail> {
 fn faults_of_the_outside(rt: HostRuntime) -> Result<(), Fail> {
     let line = "histogram 29 a.csv";
     let bytes = b"id,_healpix_29,cx,cy,cz\n7,0,1000000000,0,0\n".as_slice();
+    // The length, and the first read.
     for failing in [0, 1] {
-        let shown = run_over(rt.alloc(), line, bytes, ALL, failing, false)?;
+        let shown = run_over(rt.alloc(), line, bytes, ALL, &[failing], 100)?;
         assert_eq!(rt; shown.refusal, Some(Refusal::InputFault { input: 0 }));
         assert_eq!(rt; shown.status, 6);
     }
-    let shown = run_over(rt.alloc(), line, bytes, ALL, NEVER, true)?;
+    // The sink has room for a front of the text alone.
+    let shown = run_over(rt.alloc(), line, bytes, ALL, &[], 2)?;
     assert_eq!(rt; shown.refusal, Some(Refusal::SinkFault));
     assert_eq!(rt; shown.status, 7);
-    assert_eq!(rt; shown.written.as_slice(), b"".as_slice());
-    // A byte a read.
-    let shown = run_over(rt.alloc(), line, bytes, 1, NEVER, false)?;
+    assert_eq!(rt; shown.written.as_slice(), b"0,".as_slice());
+    // The same words again.
+    let shown = run(rt.alloc(), line, bytes)?;
     assert_eq!(rt; shown.status, 0);
     assert_eq!(rt; shown.written.as_slice(), b"0,1\n".as_slice());
+    // A byte a read.
+    let shown = run_over(rt.alloc(), line, bytes, 1, &[], 100)?;
+    assert_eq!(rt; shown.status, 0);
+    assert_eq!(rt; shown.written.as_slice(), b"0,1\n".as_slice());
+    Ok(())
+}
+
+#[test]
+fn texts_of_refusals(rt: HostRuntime) -> Result<(), Fail> {
+    let damaged = Refusal::Damaged {
+        side: 2,
+        file: JobFile::MarginSplit(17),
+        place: 40,
+    };
+    let cases: [(Refusal, &[u8]); 15] = [
+        (Refusal::Usage, b"usage"),
+        (
+            Refusal::BadInput {
+                input: 1,
+                row: 1,
+                why: 4,
+            },
+            b"bad input 1 row 1 why 4",
+        ),
+        (
+            Refusal::Overfull { pixel: 0, count: 3 },
+            b"overfull pixel 0 count 3",
+        ),
+        (
+            Refusal::TooNarrow {
+                left: 0,
+                right: 640,
+                gap2: 0,
+            },
+            b"margin too narrow left 0 right 640 gap2 0",
+        ),
+        (Refusal::StoreFault, b"store fault"),
+        (Refusal::InputFault { input: 0 }, b"input fault 0"),
+        (Refusal::SinkFault, b"output fault"),
+        (Refusal::Memory, b"out of memory"),
+        (Refusal::NoCatalogue { side: 1 }, b"no catalogue 1"),
+        (
+            Refusal::OtherJob {
+                place: 51,
+                kept: 50,
+                asked: 51,
+            },
+            b"other job at 51 kept 50 asked 51",
+        ),
+        (damaged, b"damaged 2 5 17 at 40"),
+        (
+            Refusal::Damaged {
+                side: 1,
+                file: JobFile::Properties,
+                place: 0,
+            },
+            b"damaged 1 10 0 at 0",
+        ),
+        (
+            Refusal::InputChanged {
+                input: 3,
+                pixel: 7,
+                kept: 9,
+                found: 8,
+            },
+            b"input 3 changed pixel 7 kept 9 found 8",
+        ),
+        (
+            Refusal::TooMany {
+                what: 2,
+                found: 67_108_865,
+                limit: 67_108_864,
+            },
+            b"too many 2 found 67108865 limit 67108864",
+        ),
+        (Refusal::NameTaken, b"name taken"),
+    ];
+    for (refusal, text) in cases {
+        let shown = text_of(rt.alloc(), &refusal)?;
+        assert_eq!(rt; shown.as_slice(), text, "{refusal:?}");
+    }
     Ok(())
 }
