@@ -6,9 +6,10 @@ use Rattle.std.proofs.lemmas.List.{append-nil, drop-set}
 use Rattle.std.proofs.lemmas.List.Concat.{flat_map-append}
 use Rattle.std.proofs.lemmas.List.Elements.{recursion_from_All}
 use Rattle.hx_base.specs.declared.row.Row.{Row}
-use Rattle.hx_cli.specs.Histograms.{IsHistogram, count_at, count_in, line_of, pixel_line, numbers_below, histogram_text}
-use Rattle.hx_cli.specs.declared.hist.Pair.{Pair}
-use Rattle.hx_cli.proofs.HistPairs.{filter_none, filter_all}
+use Rattle.hx_hist.specs.Histograms.{IsHistogram, count_at}
+use Rattle.hx_cli.specs.Histograms.{count_in, line_of, pixel_line, numbers_below, histogram_text}
+use Rattle.hx_hist.specs.declared.hist.Pair.{Pair}
+use Rattle.hx_hist.proofs.Pairs.{filter_none, filter_all}
 
 -- all pixels of a list are above one
 abbrev Above : ℕ → List Pair → Type 0

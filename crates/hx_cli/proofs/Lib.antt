@@ -2,8 +2,5 @@ pub mod Numbers
 pub mod Sources
 pub mod Requests
 pub mod Answered
-pub mod HistPairs
-pub mod HistPowers
 pub mod HistCounts
 pub mod HistText
-pub mod HistChildren

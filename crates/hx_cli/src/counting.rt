@@ -3,14 +3,15 @@ ghost use Rattle.std.specs.Prelude.{◌≡◌, ◌==◌, ◌*◌, ◌^◌, ◌<�
 ghost use Rattle.std.specs.Ordering.{nat_cmp};
 ghost use Rattle.hx_base.specs.Pixels.{pixel_of};
 ghost use Rattle.hx_base.specs.Rows.{IsGood};
-ghost use Rattle.hx_cli.specs.Histograms.{count_at, count_in, histogram_text, total_of};
+ghost use Rattle.hx_hist.specs.Histograms.{count_at, total_of};
+ghost use Rattle.hx_cli.specs.Histograms.{count_in, histogram_text};
 
 #[cfg(test)]
 mod tests;
 
-use crate::hist::Hist;
 use crate::lines::lines_of;
 use hx_base::Row;
+use hx_hist::Hist;
 use std::alloc::{AllocError, Global};
 
 // The pixel of an order that contains a row.

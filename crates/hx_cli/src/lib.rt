@@ -2,7 +2,6 @@
 #![tactic(auto)]
 
 mod counting;
-mod hist;
 mod input;
 mod lines;
 mod names;

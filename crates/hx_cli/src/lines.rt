@@ -1,9 +1,10 @@
 //! The text of a histogram.
 ghost use Rattle.std.specs.Prelude.{◌≡◌, ◌+◌, ◌*◌, ◌/◌, ◌≤◌, ◌++◌, IfOk, OnOk};
 ghost use Rattle.std.specs.List.{flat_map};
-ghost use Rattle.hx_cli.specs.Histograms.{IsHistogram, line_of};
+ghost use Rattle.hx_hist.specs.Histograms.{IsHistogram};
+ghost use Rattle.hx_cli.specs.Histograms.{line_of};
 
-use crate::hist::{Hist, Pair};
+use hx_hist::{Hist, Pair};
 use itoa::write_digits;
 use std::alloc::{AllocError, Global};
 

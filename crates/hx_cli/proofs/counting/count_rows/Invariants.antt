@@ -1,5 +1,5 @@
 use Rattle.std.proofs.Common.{◌≡◌, ◌==◌, ℕ, count_by, take}
-use Rattle.hx_cli.specs.Histograms.{count_at, total_of}
+use Rattle.hx_hist.specs.Histograms.{count_at, total_of}
 use Rattle.hx_cli.proofs.counting.count_rows.Given as goal
 
 abbrev pub invariant-loop-pixel : goal.invariant-loop-pixel

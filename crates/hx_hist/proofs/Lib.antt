@@ -1,0 +1,3 @@
+pub mod Powers
+pub mod Pairs
+pub mod Children
