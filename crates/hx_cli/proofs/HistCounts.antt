@@ -9,7 +9,7 @@ use Rattle.hx_base.specs.Pixels.{pixel_of}
 use Rattle.hx_base.specs.Rows.{IsGood}
 use Rattle.hx_base.specs.declared.row.Row.{Row}
 use Rattle.hx_cli.specs.Histograms.{count_in}
-use Rattle.hx_hist.proofs.Powers.{pixel_below}
+use Rattle.hx_base.proofs.Powers.{pixel_below}
 
 sum_by-map : {X Y : Type 0} (g : Y → ℕ) (f : X → Y) (xs : List X) → sum_by g (map f xs) ≡ sum_by (λ x. g (f x)) xs
 sum_by-map g f [] = refl

@@ -10,7 +10,7 @@ use Rattle.std.proofs.Math.Nat.{div-lt_iff_lt-mul, le-div_iff_mul-le}
 use Rattle.hx_hist.specs.Histograms.{total_of}
 use Rattle.hx_hist.specs.declared.hist.Pair.{Pair}
 use Rattle.hx_hist.proofs.Pairs.{filter_none, filter_all}
-use Rattle.hx_hist.proofs.Powers.{four_pos, shift_fits}
+use Rattle.hx_base.proofs.Powers.{four_pos, shift_fits}
 
 -- a place in the list: the pixels before it are below one, and those from it on are not
 pub record Parts (pixel i : ℕ) (xs : List Pair) : Type 0 where

@@ -1,4 +1,4 @@
-use Rattle.hx_hist.proofs.Powers.{shift_is, pixel_below}
+use Rattle.hx_base.proofs.Powers.{shift_is, pixel_below}
 use Rattle.hx_cli.proofs.counting.pixel_at.Goals as goal
 
 pub returns-clause-value : goal.returns-clause-value

@@ -1,5 +1,5 @@
 use Rattle.std.proofs.Common.{arith}
-use Rattle.hx_hist.proofs.Powers.{children_end}
+use Rattle.hx_base.proofs.Powers.{children_end}
 use Rattle.hx_hist.proofs.hist.Hist.total_in.Goals as goal
 
 pub total_of_children-requires-clause-range : goal.total_of_children-requires-clause-range

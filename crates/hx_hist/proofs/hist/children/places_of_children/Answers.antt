@@ -1,6 +1,6 @@
 use Rattle.std.proofs.Common.{◌+◌, ◌*◌, ◌^◌, arith}
 use Rattle.hx_hist.proofs.Children.{children, ordered, parts_at}
-use Rattle.hx_hist.proofs.Powers.{end_bounds}
+use Rattle.hx_base.proofs.Powers.{end_bounds}
 use Rattle.hx_hist.proofs.hist.children.places_of_children.Goals as goal
 
 pub overflow_add-number : goal.overflow_add-number
