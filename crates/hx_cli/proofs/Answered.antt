@@ -1,13 +1,11 @@
 -- What an answer and its printing say of a run.
-use Rattle.std.proofs.Common.{◌≡◌, ◌≢◌, ◌<◌, ◌∷◌, ◌⊎◌, ℕ, zero, suc, List, [], get_or, length, map, Option, Some, None, IfSome, IsOkAnd, IsSomeAnd, Result, Ok, Err, IfErr, IfOk, Vec, Global, refl, ap, arith, inl, inr, ◌∙◌}
+use Rattle.std.proofs.Common.{◌≡◌, ◌≢◌, ◌<◌, ◌⊎◌, ℕ, zero, suc, List, [], ◌∷◌, Option, Some, None, IfSome, IsOkAnd, Result, Ok, Err, IfErr, IfOk, Vec, Global, refl, ap, arith, sym, inl, inr, length, ◌∙◌}
 use Rattle.hx_base.specs.declared.refusal.Refusal.{Refusal}
 use Rattle.hx_base.specs.declared.refusal.Refusal.TheVariants as refusal
-use Rattle.hx_base.specs.declared.row.Row.{Row}
 use Rattle.hx_outside.specs.Faults.{Rose}
-use Rattle.hx_rows.specs.Reading.{rows_of}
-use Rattle.hx_cli.specs.FirstRefusal.{AreRows, IsExactly, IsFirstBad, MayStandInPlace}
-use Rattle.hx_cli.specs.Runs.{Gains, IsCaused, IsCommandCause, IsOutput, Prints, Tell}
-use Rattle.hx_cli.specs.Words.{AreInputNames, Command, HasMeaning, HasNoMeaning, Histogram, Means}
+use Rattle.hx_cli.specs.FirstRefusal.{IsExact, MayBeInstead, MayStandInPlace, Shows}
+use Rattle.hx_cli.specs.Runs.{Gains, IsCaused, IsCommandCause, NoneRose, Prints}
+use Rattle.hx_cli.specs.Words.{HasNoMeaning}
 
 module _ {S : Type 0} (told : S → Option (List ℕ)) (label : S → List ℕ) (faults : S → ℕ) (words : List (List ℕ)) (before now : List S) where
   -- a refusal of the line keeps its cause, and the sink's has its own
@@ -38,95 +36,44 @@ module _ {S : Type 0} (told : S → Option (List ℕ)) (label : S → List ℕ) 
   caused (Err r) outcome b n prints usage cause sink =
       rw prints (caused-by r b n (λ e. usage (ap Err e)) (λ e. sink (prints ∙ ap Some e)) cause)
 
-  -- the fault of a source that is alone, where it tells its bytes
-  lone-bad : (sources : List S) (bytes : List (List ℕ)) (input row why : ℕ) → length (map label sources) ≡ 1 → Tell told sources bytes → input < length sources
-      → ((d : S) → IfSome (told (get_or sources input d)) (λ b. rows_of (label (get_or sources input d)) b ≡ Err (row, why)))
-      → IsFirstBad (map label sources) bytes input row why
-  lone-bad [] bytes input row why one tell below fault = absurd (omega (arith, one))
-  lone-bad (s ∷ t ∷ rest) bytes input row why one tell below fault = absurd (omega (arith, one))
-  lone-bad (s ∷ []) [] input row why one tell below fault = cc tell
-  lone-bad (s ∷ []) (b ∷ more) (suc input) row why one tell below fault = absurd (omega (arith, below))
-  lone-bad (s ∷ []) (b ∷ more) zero row why one tell below fault =
-      let is : told s ≡ Some b = cc tell in
-      record { there = omega arith; fault = rw is at (fault s); before = λ i less. absurd (omega (arith, less)) }
+  -- a list that has a place has an element
+  element : (xs : List S) (i : ℕ) → i < length xs → S
+  element [] i below = absurd (omega (arith, below))
+  element (x ∷ xs) i below = x
 
-  -- a line of a meaning has one name
-  lone-name : (names : List (List ℕ)) → AreInputNames words names → (command : Command) → Means words command → length names ≡ 1
-  lone-name names named (Histogram order files) means = ap length (named.meant (Histogram order files) means) ∙ means.one
+  -- a fault of an input that has no cause
+  stands-alone : (r : Refusal) (b n : ℕ) → MayStandInPlace r → IsCaused told label faults words before now b n r → NoneRose faults before now → Some r ≡ Some refusal.Memory
+  stands-alone refusal.Memory b n free cause still = refl
+  stands-alone (refusal.InputFault i) b n free cause still = let d = element before i cause.0 in absurd (still i d cause.0 (cause.1 d))
+  stands-alone _ b n free cause still = absurd free
 
-  -- a bad input has no rows
-  no-rows : (names bytes : List (List ℕ)) (input row why : ℕ) (rows : List Row) → length names ≡ 1 → IsFirstBad names bytes input row why → AreRows names bytes rows → ⊥
-  no-rows [] bytes input row why rows one bad are = omega (arith, one)
-  no-rows (n ∷ m ∷ more) bytes input row why rows one bad are = omega (arith, one)
-  no-rows (n ∷ []) [] input row why rows one bad are = are
-  no-rows (n ∷ []) (b ∷ others) zero row why rows one bad are = cc (bad.fault, are.2)
-  no-rows (n ∷ []) (b ∷ others) (suc input) row why rows one bad are = let there = bad.there in omega (arith, there)
+  -- where no refusal comes first and no count rose, only want of memory is refused
+  pub memory_alone : (outcome : Option Refusal) (b n : ℕ) (none : Type 0) → (outcome ≡ None) ⊎ MayBeInstead outcome none → IfSome outcome (IsCaused told label faults words before now b n)
+      → NoneRose faults before now → (Rose b n → ⊥) → (outcome ≡ None) ⊎ (outcome ≡ Some refusal.Memory)
+  memory_alone outcome b n none (inl done) cause still sink = inl done
+  memory_alone None b n none (inr (inl free)) cause still sink = inl refl
+  memory_alone (Some r) b n none (inr (inl free)) cause still sink = inr (stands-alone r b n free cause still)
+  memory_alone outcome b n none (inr (inr (failed, _))) cause still sink = absurd (sink (rw failed at cause))
 
-  -- one input has one first fault
-  same-bad : (names bytes : List (List ℕ)) (i row why j row' why' : ℕ) → length names ≡ 1 → IsFirstBad names bytes i row why → IsFirstBad names bytes j row' why'
-      → refusal.BadInput i row why ≡ refusal.BadInput j row' why'
-  same-bad names bytes zero row why zero row' why' one a b =
-      let e : (row, why) ≡ (row', why') = cc (a.fault, b.fault) in ap (λ (p : ℕ × ℕ). refusal.BadInput zero p.0 p.1) e
-  same-bad names bytes (suc i) row why j row' why' one a b = let there = a.there in absurd (omega (arith, there, one))
-  same-bad names bytes zero row why (suc j) row' why' one a b = let there = b.there in absurd (omega (arith, there, one))
+module _ (IsFirst : Option Refusal → Type 0) where
+  -- printing keeps what an answer shows of the first refusal
+  shown : (answered : Result (Vec ℕ Global) Refusal) (outcome : Option Refusal) → Prints answered outcome → Shows IsFirst answered → IsFirst outcome ⊎ MayBeInstead outcome (IsFirst None)
+  shown (Ok text) None prints shows = inl shows
+  shown (Ok text) (Some refusal.SinkFault) prints shows = inr (inr (refl, shows))
+  shown (Ok text) (Some _) prints shows = absurd prints
+  shown (Err r) outcome prints (inl free) = inr (inl (rw prints free))
+  shown (Err r) outcome prints (inr first) = inl (rw prints first)
 
-  module _ (bytes : List (List ℕ)) (named : AreInputNames words (map label before)) (tell : Tell told before bytes) where
-    -- the refusal of a line is that fault, or may stand in its place
-    refused-by : (r : Refusal) (input row why : ℕ) → (command : Command) × Means words command × IsFirstBad (map label before) bytes input row why
-        → (r ≡ refusal.Usage → HasNoMeaning words) → (r ≢ refusal.Usage → IsCommandCause told label faults before now r)
-        → (Some r ≡ Some (refusal.BadInput input row why)) ⊎ MayStandInPlace r
-    refused-by refusal.Usage input row why h usage cause = absurd (usage refl h.0 h.1)
-    refused-by (refusal.BadInput i r w) input row why h usage cause =
-        let one = lone-name (map label before) named h.0 h.1 in
-        let fault = cause (λ e. cc e) in
-        inl (ap Some (same-bad (map label before) bytes i r w input row why one (lone-bad before bytes i r w one tell fault.0 fault.1) h.2))
-    refused-by (refusal.InputFault i) input row why h usage cause = inr tt
-    refused-by refusal.Memory input row why h usage cause = inr tt
-    refused-by refusal.SinkFault input row why h usage cause = absurd (cause (λ e. cc e))
-    refused-by (refusal.Overfull p c) input row why h usage cause = absurd (cause (λ e. cc e))
-    refused-by (refusal.TooNarrow l r g) input row why h usage cause = absurd (cause (λ e. cc e))
-    refused-by refusal.StoreFault input row why h usage cause = absurd (cause (λ e. cc e))
-    refused-by (refusal.NoCatalogue s) input row why h usage cause = absurd (cause (λ e. cc e))
-    refused-by (refusal.OtherJob p k a) input row why h usage cause = absurd (cause (λ e. cc e))
-    refused-by (refusal.Damaged s f p) input row why h usage cause = absurd (cause (λ e. cc e))
-    refused-by (refusal.InputChanged i p k f) input row why h usage cause = absurd (cause (λ e. cc e))
-    refused-by (refusal.TooMany w f l) input row why h usage cause = absurd (cause (λ e. cc e))
-    refused-by refusal.NameTaken input row why h usage cause = absurd (cause (λ e. cc e))
+  leads-to : ((a b : Option Refusal) → IsFirst a → IsFirst b → a ≡ b) → (outcome : Option Refusal) → IsFirst outcome ⊎ MayBeInstead outcome (IsFirst None)
+      → (first : Option Refusal) → IsFirst first → (outcome ≡ first) ⊎ MayBeInstead outcome (first ≡ None)
+  leads-to one outcome (inl is) first first-is = inl (one outcome first is first-is)
+  leads-to one outcome (inr (inl free)) first first-is = inr (inl free)
+  leads-to one outcome (inr (inr (failed, none))) first first-is = inr (inr (failed, one first None first-is none))
 
-    -- a text shows that no input is bad
-    no-bad : (text : List ℕ) (input row why : ℕ) → IsOutput words (map label before) bytes text → IsFirstBad (map label before) bytes input row why → ⊥
-    no-bad text input row why (Histogram order files, means, made) bad =
-        no-rows (map label before) bytes input row why made.0 (lone-name (map label before) named (Histogram order files) means) bad made.1
-
-    only-bad : (answered : Result (Vec ℕ Global) Refusal) (outcome : Option Refusal) (input row why : ℕ) → Prints answered outcome
-        → (answered ≢ Err refusal.Usage → HasMeaning words) → IfErr answered (λ r. r ≢ refusal.Usage → IsCommandCause told label faults before now r)
-        → outcome ≡ Some (refusal.BadInput input row why) → (command : Command) × Means words command × IsFirstBad (map label before) bytes input row why
-    only-bad (Ok text) None input row why prints meant cause is = cc is
-    only-bad (Ok text) (Some refusal.SinkFault) input row why prints meant cause is = cc is
-    only-bad (Ok text) (Some _) input row why prints meant cause is = absurd prints
-    only-bad (Err r) outcome input row why prints meant cause is =
-        let same : r ≡ refusal.BadInput input row why = cc (prints, is) in
-        let meaning = meant (λ e. cc (e, same)) in
-        let fault = (rw same at cause) (λ e. cc e) in
-        (meaning.0, meaning.1, lone-bad before bytes input row why (lone-name (map label before) named meaning.0 meaning.1) tell fault.0 fault.1)
-
-    always-bad : (answered : Result (Vec ℕ Global) Refusal) (outcome : Option Refusal) (input row why : ℕ) → Prints answered outcome
-        → IfOk answered (λ t. IsOutput words (map label before) bytes t.items)
-        → (answered ≡ Err refusal.Usage → HasNoMeaning words) → IfErr answered (λ r. r ≢ refusal.Usage → IsCommandCause told label faults before now r)
-        → (command : Command) × Means words command × IsFirstBad (map label before) bytes input row why
-        → (outcome ≡ Some (refusal.BadInput input row why)) ⊎ IsSomeAnd outcome MayStandInPlace
-    always-bad (Ok text) outcome input row why prints output usage cause h = absurd (no-bad text.items input row why output h.2)
-    always-bad (Err r) outcome input row why prints output usage cause h = rw prints (refused-by r input row why h (λ e. usage (ap Err e)) cause)
-
-    pub exactly_bad : (answered : Result (Vec ℕ Global) Refusal) (outcome : Option Refusal) (input row why : ℕ) → Prints answered outcome
-        → IfOk answered (λ t. IsOutput words (map label before) bytes t.items)
-        → (answered ≡ Err refusal.Usage → HasNoMeaning words) → (answered ≢ Err refusal.Usage → HasMeaning words)
-        → IfErr answered (λ r. r ≢ refusal.Usage → IsCommandCause told label faults before now r)
-        → IsExactly outcome (refusal.BadInput input row why) ((command : Command) × Means words command × IsFirstBad (map label before) bytes input row why)
-    exactly_bad answered outcome input row why prints output usage meant cause = record {
-      only = only-bad answered outcome input row why prints meant cause;
-      always = always-bad answered outcome input row why prints output usage cause;
-    }
+  pub exactly : ((a b : Option Refusal) → IsFirst a → IsFirst b → a ≡ b) → (answered : Result (Vec ℕ Global) Refusal) (outcome : Option Refusal) → Prints answered outcome → Shows IsFirst answered → IsExact outcome IsFirst
+  exactly one answered outcome prints shows =
+      let shown = shown answered outcome prints shows in
+      record { only = shown; always = leads-to one outcome shown }
 
 -- what the sink gained, by another word for the text
 gains-weaker : (P Q : List ℕ → Type 0) → ((text : List ℕ) → P text → Q text) → (before : List ℕ) (now : Option (List ℕ)) (outcome : Option Refusal) → Gains P before now outcome → Gains Q before now outcome

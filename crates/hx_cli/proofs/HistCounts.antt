@@ -1,11 +1,14 @@
 -- Counts of rows by pixel.
-use Rattle.std.proofs.Common.{◌≡◌, ◌∙◌, ◌+◌, ◌*◌, ◌^◌, ◌<◌, ◌≤◌, ◌==◌, ◌∷◌, [], ℕ, List, map, sym, ap, refl, count_by, if◌then◌else◌}
+use Rattle.std.proofs.Common.{◌≡◌, ◌∙◌, ◌+◌, ◌*◌, ◌^◌, ◌<◌, ◌≤◌, ◌==◌, ◌++◌, ◌∷◌, [], length, ℕ, List, map, sym, ap, refl, count_by, if◌then◌else◌}
 use Rattle.std.specs.List.{All, sum_by}
 use Rattle.std.specs.List.Sorted.{IsPermutation}
-use Rattle.std.proofs.lemmas.List.Elements.{All-map, All-weaker}
+use Rattle.std.proofs.lemmas.List.{length-append}
+use Rattle.std.proofs.lemmas.List.Elements.{All-map, All-weaker, filter-append}
 use Rattle.std.proofs.lemmas.List.Sorted.{All-permutation, sum_by-IsPermutation}
 use Rattle.std.proofs.lemmas.List.Sums.{sum_by-cons, length-filter}
-use Rattle.hx_base.specs.Pixels.{pixel_of}
+use Rattle.hx_base.specs.Pixels.{pixel_of, rows_in}
+use Rattle.hx_hist.specs.Histograms.{count_at}
+use Rattle.hx_hist.specs.declared.hist.Pair.{Pair}
 use Rattle.hx_base.specs.Rows.{IsGood}
 use Rattle.hx_base.specs.declared.row.Row.{Row}
 use Rattle.hx_cli.specs.Histograms.{count_in}
@@ -27,3 +30,11 @@ pixels_range order rows pixels h good moved =
     All-permutation (λ pixel. pixel < 12 * 4 ^ order) (map (λ (row : Row). pixel_of order row.hp) rows) pixels moved
     (All-map (λ pixel. pixel < 12 * 4 ^ order) (λ (row : Row). pixel_of order row.hp) rows
     (All-weaker IsGood (λ (row : Row). pixel_of order row.hp < 12 * 4 ^ order) (λ row g. pixel_below order row.hp h g.pixel) rows good))
+
+-- the counts of more rows
+pub count_more : (order same : ℕ) (rows more : List Row) (old new : List Pair) → same ≡ order → ((p : ℕ) → count_at p old ≡ count_in order p rows)
+    → ((p : ℕ) → count_at p new ≡ count_at p old + count_in same p more) → (p : ℕ) → count_at p new ≡ count_in order p (rows ++ more)
+count_more order same rows more old new is counted added p =
+    let both : length (rows_in (record { order = order; number = p }) (rows ++ more)) ≡ count_in order p rows + count_in order p more =
+    ap (λ (xs : List Row). length xs) (filter-append (λ (row : Row). pixel_of order row.hp == p) rows more) ∙ length-append (rows_in (record { order = order; number = p }) rows) _ in
+    added p ∙ rw is (ap (λ (n : ℕ). n + count_in order p more) (counted p)) ∙ sym both

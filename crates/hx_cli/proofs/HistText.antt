@@ -95,14 +95,18 @@ by_pixels xs up some (suc n) =
     rw (split n xs up, flat_map-append line (filter (below n) xs) (filter (is_at n) xs), by_pixels xs up some n, at_one n xs up some)
     (sym (flat_map-append (λ p. text_of p (count_at p xs)) (numbers_below n) (n ∷ []) ∙ ap (λ t. flat_map (λ p. text_of p (count_at p xs)) (numbers_below n) ++ t) (append-nil (text_of n (count_at n xs)))))
 
--- the text of a histogram that has the counts of rows
-pub lines_are : (order : ℕ) (rows : List Row) (pairs : List Pair) → IsHistogram order pairs → ((p : ℕ) → count_at p pairs ≡ count_in order p rows) → flat_map (λ pair. line_of pair.pixel pair.count) pairs ≡ histogram_text order rows
+lines-of-order : (order : ℕ) (rows : List Row) (pairs : List Pair) → IsHistogram order pairs → ((p : ℕ) → count_at p pairs ≡ count_in order p rows) → flat_map (λ pair. line_of pair.pixel pair.count) pairs ≡ histogram_text order rows
 unfolding histogram_text
-lines_are order rows pairs h counts =
+lines-of-order order rows pairs h counts =
     let n = 12 * 4 ^ order in
     let whole : filter (below n) pairs ≡ pairs = filter_all (below n) pairs (λ k d within. lt-ltb _ n (h.range k d within)) in
     ap (flat_map line) (sym whole) ∙ by_pixels pairs (rises_from pairs h.ascending) (recursion_from_All (λ pair. 0 < pair.count) pairs h.counted) n
     ∙ flat_map_same (λ p. text_of p (count_at p pairs)) (pixel_line order rows) (λ p. ap (text_of p) (counts p)) (numbers_below n)
+
+-- the text of a histogram that has the counts of rows
+pub lines_are : (order same : ℕ) (rows : List Row) (pairs : List Pair) → same ≡ order → IsHistogram same pairs → ((p : ℕ) → count_at p pairs ≡ count_in order p rows)
+    → flat_map (λ pair. line_of pair.pixel pair.count) pairs ≡ histogram_text order rows
+lines_are order same rows pairs is h counts = lines-of-order order rows pairs (rw is at h) counts
 
 -- a line that is written from its end: the count before the newline, a comma before it, and the pixel before that
 pub line_written : (pixel count : List ℕ) (first second : List ℕ) (comma start : ℕ) → comma < length first → drop (comma + 1) first ≡ count ++ 10 ∷ [] → drop start second ≡ pixel ++ drop comma (set first comma 44)

@@ -1,5 +1,7 @@
 pub mod Numbers
 pub mod Sources
+pub mod FileWords
+pub mod FirstRefusals
 pub mod Requests
 pub mod Answered
 pub mod HistCounts

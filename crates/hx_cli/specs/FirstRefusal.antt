@@ -1,26 +1,55 @@
--- Which refusal comes first, by the words of the command line and the inputs' names and bytes.
-use Rattle.std.specs.Prelude.{◌≡◌, ◌<◌, ◌++◌, ◌∷◌, ◌⊎◌, ℕ, List, [], length, slice_index_or, Option, Some, Ok, Err, IsOk, IsSomeAnd}
+-- Which refusal comes first, by the inputs' names and bytes.
+use Rattle.std.specs.Prelude.{◌≡◌, ◌+◌, ◌++◌, ◌∷◌, ◌⊎◌, ℕ, List, [], length, nat_lt, if◌then◌else◌, Option, Some, None, IsSomeAnd, Result, Ok, Err}
+use Rattle.std.specs.Option.{option_or}
 use Rattle.hx_base.specs.declared.refusal.Refusal.{Refusal}
 use Rattle.hx_base.specs.declared.refusal.Refusal.TheVariants as refusal
 use Rattle.hx_base.specs.declared.row.Row.{Row}
 use Rattle.hx_rows.specs.Reading.{rows_of}
-use Rattle.hx_cli.specs.Words.{Command, Means, HasNoMeaning}
+use Rattle.hx_cli.specs.Words.{Command, Histogram}
 
-abbrev pub text_at : List (List ℕ) → ℕ → List ℕ
-text_at texts i = slice_index_or texts i []
+-- at most so many inputs, and so many bytes in each
+abbrev pub most_inputs : ℕ
+most_inputs = 10000
 
--- the first input that has a fault, and its first fault: a row and a number
-pub record IsFirstBad (names bytes : List (List ℕ)) (input row why : ℕ) : Type 0 where
-  pub there : input < length names
-  pub fault : rows_of (text_at names input) (text_at bytes input) ≡ Err (row, why)
-  pub before : (i : ℕ) → i < input → IsOk (rows_of (text_at names i) (text_at bytes i))
+abbrev pub most_bytes : ℕ
+most_bytes = 67108864
 
--- the first refusal that applies
-abbrev pub IsFirstRefusal : List (List ℕ) → List (List ℕ) → List (List ℕ) → Refusal → Type 0
-IsFirstRefusal words names bytes refusal.Usage = HasNoMeaning words
-IsFirstRefusal words names bytes (refusal.BadInput input row why) =
-    (command : Command) × Means words command × IsFirstBad names bytes input row why
-IsFirstRefusal words names bytes _ = ⊥
+-- a quantity that is above its limit
+abbrev pub above : ℕ → ℕ → ℕ → Option Refusal
+above what limit found = if nat_lt limit found then Some (refusal.TooMany what found limit) else None
+
+-- the first refusal is that one, or where there is none the first of the others
+abbrev pub OrElse : Option Refusal → (Option Refusal → Type 0) → Option Refusal → Type 0
+OrElse None IsFirst first = IsFirst first
+OrElse (Some r) IsFirst first = first ≡ Some r
+
+-- too many inputs are named
+abbrev pub too_many_inputs : ℕ → Option Refusal
+too_many_inputs count = above 1 most_inputs count
+
+-- the first input that is too long
+abbrev pub too_long : List (List ℕ) → Option Refusal
+too_long [] = None
+too_long (bytes ∷ more) = option_or (above 2 most_bytes (length bytes)) (too_long more)
+
+-- the fault of an input, by its number
+abbrev pub fault_of : ℕ → Result (List Row) (ℕ × ℕ) → Option Refusal
+fault_of number (Ok rows) = None
+fault_of number (Err (row, why)) = Some (refusal.BadInput number row why)
+
+-- the first fault of the first input that has one; the inputs are numbered on from `number`
+abbrev pub bad_input : ℕ → List (List ℕ) → List (List ℕ) → Option Refusal
+bad_input number (name ∷ names) (bytes ∷ more) = option_or (fault_of number (rows_of name bytes)) (bad_input (number + 1) names more)
+bad_input number _ _ = None
+
+-- the first refusal of inputs that are not too many nor too long, or that there is none
+abbrev pub IsLaterRefusal : Command → List (List ℕ) → List (List ℕ) → Option Refusal → Type 0
+IsLaterRefusal (Histogram order files) names bytes first = first ≡ bad_input 0 names bytes
+
+-- the first refusal of a command over inputs with these names and bytes: too many inputs; one that is too long; then
+-- what the command itself refuses; or that there is none
+abbrev pub IsFirstRefusal : Command → List (List ℕ) → List (List ℕ) → Option Refusal → Type 0
+IsFirstRefusal command names bytes first = OrElse (option_or (too_many_inputs (length names)) (too_long bytes)) (IsLaterRefusal command names bytes) first
 
 -- the answers that may come in place of one that isn't decided yet
 abbrev pub MayStandInPlace : Refusal → Type 0
@@ -28,10 +57,20 @@ MayStandInPlace (refusal.InputFault input) = Unit {0}
 MayStandInPlace refusal.Memory = Unit {0}
 MayStandInPlace _ = ⊥
 
--- a refusal is answered exactly where it applies, unless one that may stand in its place is answered
-pub record IsExactly (answer : Option Refusal) (refusal : Refusal) (applies : Type 0) : Type 0 where
-  pub only : answer ≡ Some refusal → applies
-  pub always : applies → (answer ≡ Some refusal) ⊎ IsSomeAnd answer MayStandInPlace
+-- what is shown of the first refusal by work that is done or refused; a refusal that may stand in its place leaves it
+-- open
+abbrev pub Shows : {T : Type 0} → (Option Refusal → Type 0) → Result T Refusal → Type 0
+Shows IsFirst (Ok done) = IsFirst None
+Shows IsFirst (Err r) = MayStandInPlace r ⊎ IsFirst (Some r)
+
+-- the answers beside the first refusal: one that may stand in its place, and the sink's where there is none
+abbrev pub MayBeInstead : Option Refusal → Type 0 → Type 0
+MayBeInstead answer none = IsSomeAnd answer MayStandInPlace ⊎ ((answer ≡ Some refusal.SinkFault) × none)
+
+-- each refusal is answered exactly where it comes first
+pub record IsExact (answer : Option Refusal) (IsFirst : Option Refusal → Type 0) : Type 0 where
+  pub only : IsFirst answer ⊎ MayBeInstead answer (IsFirst None)
+  pub always : (first : Option Refusal) → IsFirst first → (answer ≡ first) ⊎ MayBeInstead answer (first ≡ None)
 
 -- the rows of all inputs, one input after another
 abbrev pub AreRows : List (List ℕ) → List (List ℕ) → List Row → Type 0

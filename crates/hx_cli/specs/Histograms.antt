@@ -1,8 +1,8 @@
 -- The text of a histogram of rows.
-use Rattle.std.specs.Prelude.{◌==◌, ◌*◌, ◌^◌, ◌++◌, ◌∷◌, ℕ, zero, suc, if◌then◌else◌, List, [], length}
+use Rattle.std.specs.Prelude.{◌==◌, ◌*◌, ◌^◌, ◌++◌, ◌∷◌, ℕ, zero, suc, if◌then◌else◌, List, []}
 use Rattle.std.specs.Fmt.{decimal}
 use Rattle.std.specs.List.{flat_map}
-use Rattle.hx_base.specs.Pixels.{rows_in}
+use Rattle.hx_base.specs.Pixels as pixels
 use Rattle.hx_base.specs.declared.row.Row.{Row}
 
 -- a line: the pixel, a comma, its count
@@ -11,7 +11,7 @@ line_of pixel count = decimal pixel ++ 44 ∷ [] ++ decimal count ++ 10 ∷ []
 
 -- how many rows a pixel of an order contains
 abbrev pub count_in : ℕ → ℕ → List Row → ℕ
-count_in order pixel rows = length (rows_in (record { order = order; number = pixel }) rows)
+count_in order pixel rows = pixels.count_in (record { order = order; number = pixel }) rows
 
 -- the line of a pixel that contains rows
 abbrev pub pixel_line : ℕ → List Row → ℕ → List ℕ

@@ -1,22 +1,23 @@
 -- What a request of the code stands for.
-use Rattle.std.specs.Prelude.{◌≡◌, ◌≤◌, ℕ, List, length, drop, All}
-use Rattle.hx_cli.specs.Words.{Command, Histogram, IsCsvWord, Means}
+use Rattle.std.specs.Prelude.{◌≤◌, ℕ, List, length, drop}
+use Rattle.hx_cli.specs.Words.{AreFiles, Command, Histogram, Means}
+use Rattle.hx_cli.specs.declared.words.Action.{Action}
+use Rattle.hx_cli.specs.declared.words.Action.TheVariants as action
 use Rattle.hx_cli.specs.declared.words.Request.{Request}
-use Rattle.hx_cli.specs.declared.words.Request.TheVariants as request
 
 -- the command, over inputs of these names
-abbrev pub command_of : Request → List (List ℕ) → Command
-command_of (request.Histogram order) names = Histogram order names
+abbrev pub command_of : Action → List (List ℕ) → Command
+command_of (action.Histogram order) names = Histogram order names
 
 -- the words mean that command, over the inputs that they end in
-abbrev pub IsRequest : List (List ℕ) → Request → Type 0
-IsRequest words (request.Histogram order) = Means words (Histogram order (drop 2 words))
+pub record IsRequest (words : List (List ℕ)) (request : Request) : Type 0 where
+  pub within : request.files ≤ length words
+  pub means : Means words (command_of request.action (drop request.files words))
 
 -- its numbers are in their ranges, and its inputs have names of their kind
 pub record IsHistogramRequest (order : ℕ) (names : List (List ℕ)) : Type 0 where
   pub in_range : order ≤ 29
-  pub one : length names ≡ 1
-  pub each : All IsCsvWord names
+  pub files : AreFiles names
 
-abbrev pub IsSound : Request → List (List ℕ) → Type 0
-IsSound (request.Histogram order) names = IsHistogramRequest order names
+abbrev pub IsSound : Action → List (List ℕ) → Type 0
+IsSound (action.Histogram order) names = IsHistogramRequest order names

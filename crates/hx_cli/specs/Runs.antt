@@ -1,5 +1,5 @@
 -- What a run leaves, and why it was refused.
-use Rattle.std.specs.Prelude.{◌≡◌, ◌<◌, ◌++◌, ℕ, List, length, map, take, slice_index_or, Option, Some, None, IfSome, Result, Ok, Err, Vec}
+use Rattle.std.specs.Prelude.{◌≡◌, ◌<◌, ◌++◌, ◌⊎◌, ℕ, List, length, map, take, slice_index_or, Option, Some, None, IfSome, Result, Ok, Err, Vec}
 use Rattle.std.specs.declared.alloc.Global.{Global}
 use Rattle.hx_base.specs.declared.refusal.Refusal.{Refusal}
 use Rattle.hx_base.specs.declared.refusal.Refusal.TheVariants as refusal
@@ -7,7 +7,7 @@ use Rattle.hx_base.specs.declared.row.Row.{Row}
 use Rattle.hx_outside.specs.Faults.{Rose}
 use Rattle.hx_outside.specs.Sources.{SameSource}
 use Rattle.hx_rows.specs.Reading.{rows_of}
-use Rattle.hx_cli.specs.FirstRefusal.{AreRows}
+use Rattle.hx_cli.specs.FirstRefusal.{AreRows, most_bytes, most_inputs}
 use Rattle.hx_cli.specs.Histograms.{histogram_text}
 use Rattle.hx_cli.specs.Words.{Command, Histogram, Means, HasNoMeaning}
 
@@ -20,14 +20,28 @@ pub record SameSources {S : Type 0} (told : S → Option (List ℕ)) (label : S 
 abbrev pub Tell : {S : Type 0} → (S → Option (List ℕ)) → List S → List (List ℕ) → Type 0
 Tell told sources bytes = map told sources ≡ map Some bytes
 
+-- one of the inputs has so many bytes, where it tells them
+abbrev pub HasLength : {S : Type 0} → (S → Option (List ℕ)) → List S → ℕ → Type 0
+HasLength {S} told inputs count = (input : ℕ) × (input < length inputs) × ((d : S) → IfSome (told (slice_index_or inputs input d)) (λ bytes. length bytes ≡ count))
+
+-- a quantity is above its limit: how many inputs there are, or the bytes of one of them
+abbrev pub IsTooMany : {S : Type 0} → (S → Option (List ℕ)) → List S → ℕ → ℕ → ℕ → Type 0
+IsTooMany {S} told inputs what found limit =
+    (limit < found) × (((what ≡ 1) × (limit ≡ most_inputs) × (found ≡ length inputs)) ⊎ ((what ≡ 2) × (limit ≡ most_bytes) × HasLength told inputs found))
+
 -- the cause of a refusal of a command that is understood, by its inputs before and after
 abbrev pub IsCommandCause : {S : Type 0} → (S → Option (List ℕ)) → (S → List ℕ) → (S → ℕ) → List S → List S → Refusal → Type 0
 IsCommandCause {S} told label faults before now (refusal.BadInput input row why) =
     (input < length before) × ((d : S) → IfSome (told (slice_index_or before input d)) (λ bytes. rows_of (label (slice_index_or before input d)) bytes ≡ Err (row, why)))
 IsCommandCause {S} told label faults before now (refusal.InputFault input) =
     (input < length before) × ((d : S) → Rose (faults (slice_index_or before input d)) (faults (slice_index_or now input d)))
+IsCommandCause told label faults before now (refusal.TooMany what found limit) = IsTooMany told before what found limit
 IsCommandCause told label faults before now refusal.Memory = Unit {0}
 IsCommandCause told label faults before now _ = ⊥
+
+-- no source has failed
+abbrev pub NoneRose : {S : Type 0} → (S → ℕ) → List S → List S → Type 0
+NoneRose {S} faults before now = (i : ℕ) (d : S) → i < length before → Rose (faults (slice_index_or before i d)) (faults (slice_index_or now i d)) → ⊥
 
 -- the cause of each refusal of a command line: its words, the inputs before and after, the sink's count before and after
 abbrev pub IsCaused : {S : Type 0} → (S → Option (List ℕ)) → (S → List ℕ) → (S → ℕ) → List (List ℕ) → List S → List S → ℕ → ℕ → Refusal → Type 0

@@ -16,18 +16,22 @@ pub record IsCsvWord (word : List ℕ) : Type 0 where
   pub file : IsFileWord word
   pub csv : IsCsvName word
 
+-- the words that name a command's inputs, at least one
+pub record AreFiles (words : List (List ℕ)) : Type 0 where
+  pub some : 1 ≤ length words
+  pub each : All IsCsvWord words
+
 -- a text that may be a decimal number by its first byte: `0` stands alone, and there is no sign
 pub record BeginsNumber (text : List ℕ) : Type 0 where
   pub some : 0 < length text
   pub no_sign : slice_index text 0 ≢ 43
   pub no_leading_zero : slice_index text 0 ≡ 48 → length text ≡ 1
 
--- `histogram K FILE`: K is an order as a decimal number, with no sign and no leading zero
+-- `histogram K FILE...`: K is an order as a decimal number, with no sign and no leading zero
 pub record IsHistogramLine (words : List (List ℕ)) (order : ℕ) (files : List (List ℕ)) : Type 0 where
   pub form : words ≡ codes "histogram" ∷ decimal order ∷ files
   pub in_range : order ≤ 29
-  pub one : length files ≡ 1
-  pub each : All IsCsvWord files
+  pub inputs : AreFiles files
 
 -- what words mean
 abbrev pub Means : List (List ℕ) → Command → Type 0

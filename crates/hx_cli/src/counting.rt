@@ -4,12 +4,11 @@ ghost use Rattle.std.specs.Ordering.{nat_cmp};
 ghost use Rattle.hx_base.specs.Pixels.{pixel_of};
 ghost use Rattle.hx_base.specs.Rows.{IsGood};
 ghost use Rattle.hx_hist.specs.Histograms.{count_at, total_of};
-ghost use Rattle.hx_cli.specs.Histograms.{count_in, histogram_text};
+ghost use Rattle.hx_cli.specs.Histograms.{count_in};
 
 #[cfg(test)]
 mod tests;
 
-use crate::lines::lines_of;
 use hx_base::Row;
 use hx_hist::Hist;
 use std::alloc::{AllocError, Global};
@@ -55,14 +54,4 @@ pub fn count_rows(alloc: Global, order: u8, rows: &[Row]) -> Result<Hist, AllocE
         hist.add(*pixel, 1)?;
     }
     Ok(hist)
-}
-
-/// The lines of all pixels of an order that contain rows, ascending.
-pub fn histogram_lines(alloc: Global, order: u8, rows: &[Row]) -> Result<Vec<u8>, AllocError>
-    requires order { order ≤ 29 }
-    requires good { All IsGood rows.now }
-    ensures { IfOk result (λ text. text.items ≡ histogram_text order rows.now) }
-{
-    let hist = count_rows(alloc, order, rows)?;
-    lines_of(alloc, &hist)
 }

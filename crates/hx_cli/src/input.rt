@@ -1,10 +1,10 @@
 //! An input, read whole and as rows.
-ghost use Rattle.std.specs.Prelude.{◌≡◌, ◌+◌, ◌<◌, ◌≤◌, Ok, All, IfErr, IfOk, IfSome, length, take, vec_len};
+ghost use Rattle.std.specs.Prelude.{◌≡◌, ◌+◌, ◌^◌, ◌<◌, ◌≤◌, Ok, All, IfErr, IfOk, IfSome, length, take, vec_len};
 ghost use Rattle.hx_base.specs.Rows.{IsGood};
 ghost use Rattle.hx_base.specs.FileWords.{IsCsvName};
-ghost use Rattle.hx_outside.specs.Faults.{Rose};
 ghost use Rattle.hx_outside.specs.Sources.{SameSource};
 ghost use Rattle.hx_rows.specs.Reading.{rows_of};
+ghost use Rattle.hx_cli.specs.FirstRefusal.{Shows, fault_of};
 ghost use Rattle.hx_cli.specs.Inputs.{IsReadCause, IsInputCause};
 
 use hx_base::{Refusal, Row};
@@ -89,6 +89,9 @@ pub fn read_input<Src: Source>(
     ensures rows { IfOk result (λ rows. IfSome (Src.told source.old) (λ bytes.
         rows_of (Src.label source.old) bytes ≡ Ok rows.items)) }
     ensures good { IfOk result (λ rows. All IsGood rows.items) }
+    ensures few { IfOk result (λ rows. length rows.items ≤ 2 ^ 40) }
+    ensures first { IfSome (Src.told source.old) (λ bytes.
+        Shows (λ first. first ≡ fault_of number (rows_of (Src.label source.old) bytes)) result) }
     ensures same { SameSource Src.told Src.label Src.faults source.old source.new }
     ensures cause { IfErr result (IsInputCause number (Src.told source.old) (Src.label source.old)
         (Src.faults source.old) (Src.faults source.new)) }

@@ -3,6 +3,7 @@
 
 mod counting;
 mod input;
+mod inputs;
 mod lines;
 mod names;
 mod run;

@@ -21,7 +21,7 @@ pub fn input_names(alloc: Global, words: &[String]) -> Result<Vec<String>, Alloc
     ensures { IfOk result (λ names. AreInputNames (map string_bytes words.now) (map string_bytes names.items)) }
 {
     match request_of(words) {
-        Some(_) => copied(alloc, &words[2..]),
+        Some(request) => copied(alloc, &words[request.files..]),
         None => Ok(Vec::new(alloc)),
     }
 }

@@ -1,17 +1,16 @@
 //! The top call: a command line, done over its inputs.
-ghost use Rattle.std.specs.Prelude.{◌≡◌, ◌≢◌, ◌↔◌, List, ℕ, Err, IfErr, IfOk, IfSome, IsOkAnd, Some, map, string_bytes};
+ghost use Rattle.std.specs.Prelude.{◌≡◌, ◌≢◌, ◌<◌, ◌≤◌, ◌↔◌, ◌⊎◌, List, ℕ, Err, IfErr, IfOk, IfSome, IsOkAnd, None, Some, length, map, string_bytes};
 ghost use Rattle.hx_base.specs.Refusals.{status_after};
-ghost use Rattle.hx_base.specs.declared.refusal.Refusal.TheVariants.{BadInput, SinkFault, Usage};
+ghost use Rattle.hx_base.specs.declared.refusal.Refusal.TheVariants.{Memory, SinkFault, TooMany, Usage};
 ghost use Rattle.hx_outside.specs.Faults.{Rose};
-ghost use Rattle.hx_outside.specs.Sinks.{Appends};
-ghost use Rattle.hx_cli.specs.FirstRefusal.{IsExactly, IsFirstRefusal};
+ghost use Rattle.hx_cli.specs.FirstRefusal.{IsExact, IsFirstRefusal, IsLaterRefusal, Shows, bad_input, most_inputs};
 ghost use Rattle.hx_cli.specs.Requests.{IsHistogramRequest, IsSound, command_of};
-ghost use Rattle.hx_cli.specs.Runs.{Gains, IsCaused, IsCommandCause, IsOutput, IsTextOf, Prints, SameSources, Tell};
-ghost use Rattle.hx_cli.specs.Words.{AreInputNames, HasMeaning, HasNoMeaning, Histogram};
+ghost use Rattle.hx_cli.specs.Runs.{Gains, IsCaused, IsCommandCause, IsOutput, IsTextOf, NoneRose, Prints, SameSources, Tell};
+ghost use Rattle.hx_cli.specs.Words.{AreInputNames, Command, HasNoMeaning, Histogram, Means};
 
-use crate::counting::histogram_lines;
-use crate::input::read_input;
-use crate::words::{Request, request_of};
+use crate::inputs::{check_inputs, count_inputs};
+use crate::lines::lines_of;
+use crate::words::{Action, request_of};
 use hx_base::Refusal;
 use hx_outside::{Sink, Source, Store};
 use std::alloc::Global;
@@ -27,45 +26,75 @@ pub struct Ran<Src, S> {
     pub store: S,
 }
 
-// The text of a histogram of one input's rows.
+// The text of a histogram of the inputs' rows.
 fn histogram<Src: Source>(
     alloc: Global,
     order: u8,
     inputs: &mut Vec<Src>,
 ) -> Result<Vec<u8>, Refusal>
-    requires { IsHistogramRequest order (map Src.label inputs.old.items) }
+    requires request { IsHistogramRequest order (map Src.label inputs.old.items) }
+    requires few { length inputs.old.items ≤ most_inputs }
     ensures text { let names = map Src.label inputs.old.items in
         (bytes : List (List ℕ)) → Tell Src.told inputs.old.items bytes →
         IfOk result (λ text. IsTextOf (Histogram order names) names bytes text.items) }
+    ensures first { let names = map Src.label inputs.old.items in
+        (bytes : List (List ℕ)) → Tell Src.told inputs.old.items bytes →
+        Shows (λ first. first ≡ bad_input 0 names bytes) result }
     ensures same { SameSources Src.told Src.label Src.faults inputs.old.items inputs.new.items }
     ensures cause { IfErr result
         (IsCommandCause Src.told Src.label Src.faults inputs.old.items inputs.new.items) }
 {
-    let source = &mut inputs[0];
-    let rows = read_input(alloc, source, 0)?;
-    match histogram_lines(alloc, order, rows.as_slice()) {
+    let counts = count_inputs(alloc, order, inputs)?;
+    match lines_of(alloc, &counts) {
         Ok(text) => Ok(text),
         Err(_) => Err(Refusal::Memory),
     }
 }
 
-// The text that a request asks for.
-fn answer<Src: Source>(
+// The text that an action gives over inputs that keep to the limits.
+fn act<Src: Source>(
     alloc: Global,
-    request: Request,
+    action: Action,
     inputs: &mut Vec<Src>,
 ) -> Result<Vec<u8>, Refusal>
-    requires { IsSound request (map Src.label inputs.old.items) }
+    requires sound { IsSound action (map Src.label inputs.old.items) }
+    requires few { length inputs.old.items ≤ most_inputs }
     ensures text { let names = map Src.label inputs.old.items in
         (bytes : List (List ℕ)) → Tell Src.told inputs.old.items bytes →
-        IfOk result (λ text. IsTextOf (command_of request names) names bytes text.items) }
+        IfOk result (λ text. IsTextOf (command_of action names) names bytes text.items) }
+    ensures first { let names = map Src.label inputs.old.items in
+        (bytes : List (List ℕ)) → Tell Src.told inputs.old.items bytes →
+        Shows (IsLaterRefusal (command_of action names) names bytes) result }
     ensures same { SameSources Src.told Src.label Src.faults inputs.old.items inputs.new.items }
     ensures cause { IfErr result
         (IsCommandCause Src.told Src.label Src.faults inputs.old.items inputs.new.items) }
 {
-    match request {
-        Request::Histogram { order } => histogram(alloc, order, inputs),
+    match action {
+        Action::Histogram { order } => histogram(alloc, order, inputs),
     }
+}
+
+// The text that an action gives.
+fn answer<Src: Source>(
+    alloc: Global,
+    action: Action,
+    inputs: &mut Vec<Src>,
+) -> Result<Vec<u8>, Refusal>
+    requires { IsSound action (map Src.label inputs.old.items) }
+    ensures text { let names = map Src.label inputs.old.items in
+        (bytes : List (List ℕ)) → Tell Src.told inputs.old.items bytes →
+        IfOk result (λ text. IsTextOf (command_of action names) names bytes text.items) }
+    ensures first { let names = map Src.label inputs.old.items in
+        (bytes : List (List ℕ)) → Tell Src.told inputs.old.items bytes →
+        Shows (IsFirstRefusal (command_of action names) names bytes) result }
+    ensures many { most_inputs < length inputs.old.items →
+        result ≡ Err (TooMany 1 (length inputs.old.items) most_inputs) }
+    ensures same { SameSources Src.told Src.label Src.faults inputs.old.items inputs.new.items }
+    ensures cause { IfErr result
+        (IsCommandCause Src.told Src.label Src.faults inputs.old.items inputs.new.items) }
+{
+    check_inputs(inputs)?;
+    act(alloc, action, inputs)
 }
 
 // The text that a line asks for.
@@ -79,14 +108,19 @@ fn answer_line<Src: Source>(
         (bytes : List (List ℕ)) → Tell Src.told inputs.old.items bytes →
         IfOk result (λ text. IsOutput (map string_bytes words.now) names bytes text.items) }
     ensures usage { (result ≡ Err Usage) ↔ HasNoMeaning (map string_bytes words.now) }
-    ensures meant { result ≢ Err Usage → HasMeaning (map string_bytes words.now) }
+    ensures first { let names = map Src.label inputs.old.items in
+        (bytes : List (List ℕ)) (command : Command) → Tell Src.told inputs.old.items bytes →
+        Means (map string_bytes words.now) command →
+        Shows (IsFirstRefusal command names bytes) result }
+    ensures many { most_inputs < length inputs.old.items →
+        result ≡ Err (TooMany 1 (length inputs.old.items) most_inputs) }
     ensures same { SameSources Src.told Src.label Src.faults inputs.old.items inputs.new.items }
     ensures cause { IfErr result (λ r. r ≢ Usage →
         IsCommandCause Src.told Src.label Src.faults inputs.old.items inputs.new.items r) }
 {
     match request_of(words) {
         None => Err(Refusal::Usage),
-        Some(request) => answer(alloc, request, inputs),
+        Some(request) => answer(alloc, request.action, inputs),
     }
 }
 
@@ -136,11 +170,23 @@ pub fn run_plain<Src: Source, S: Store, O: Sink>(
     // Usage exactly where the words have no meaning.
     ensures usage { (result.refusal ≡ Some Usage) ↔ HasNoMeaning (map string_bytes words.now) }
 
-    // Where the sources tell: BadInput exactly where an input has a fault, and it is the first.
-    ensures bad_input { let names = map Src.label inputs.items in
-        (bytes : List (List ℕ)) → Tell Src.told inputs.items bytes → (input row why : ℕ) →
-        IsExactly result.refusal (BadInput input row why)
-        (IsFirstRefusal (map string_bytes words.now) names bytes (BadInput input row why)) }
+    // More inputs than there may be are refused before anything else is done.
+    ensures many { most_inputs < length inputs.items →
+        result.refusal ≡ Some (TooMany 1 (length inputs.items) most_inputs) }
+
+    // Where the sources tell: each refusal of a line that has a meaning exactly where it comes first.
+    ensures first { let names = map Src.label inputs.items in
+        (bytes : List (List ℕ)) (command : Command) → Tell Src.told inputs.items bytes →
+        Means (map string_bytes words.now) command →
+        IsExact result.refusal (IsFirstRefusal command names bytes) }
+
+    // Where the sources tell, no refusal comes first and no count rose, only want of memory is refused.
+    ensures complete { let names = map Src.label inputs.items in
+        (bytes : List (List ℕ)) (command : Command) → Tell Src.told inputs.items bytes →
+        Means (map string_bytes words.now) command → IsFirstRefusal command names bytes None →
+        NoneRose Src.faults inputs.items result.inputs.items →
+        (Rose (O.faults out.old) (O.faults out.new) → ⊥) →
+        (result.refusal ≡ None) ⊎ (result.refusal ≡ Some Memory) }
 
     // Each refusal has its cause.
     ensures cause { IfSome result.refusal

@@ -5,3 +5,4 @@ pub mod Numbers
 pub mod Spelling
 pub mod Whole
 pub mod Words
+pub mod Few

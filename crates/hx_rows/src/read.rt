@@ -1,4 +1,4 @@
-ghost use Rattle.std.specs.Prelude.{IfOk, All};
+ghost use Rattle.std.specs.Prelude.{◌≤◌, IfOk, All, length};
 ghost use Rattle.hx_base.specs.Rows.{IsGood};
 ghost use Rattle.hx_base.specs.FileWords.{IsCsvName};
 ghost use Rattle.hx_rows.specs.Reading.{Reads, rows_of};
@@ -20,6 +20,8 @@ pub fn read_rows(alloc: Global, name: &str, bytes: &[u8]) -> Result<Vec<Row>, Ro
     requires { IsCsvName name.now }
     ensures exact { Reads result (rows_of name.now bytes.now) }
     ensures good { IfOk result (λ rows. All IsGood rows.items) }
+    // At most 2^40, the greatest number that a row may have.
+    ensures few { IfOk result (λ rows. length rows.items ≤ 1099511627776) }
 {
     csv_rows(alloc, bytes)
 }

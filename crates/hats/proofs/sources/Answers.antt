@@ -1,14 +1,9 @@
-use Rattle.std.proofs.Common.{◌≡◌, ◌++◌, ◌∷◌, ◌∙◌, [], string_bytes, sym, take}
-use Rattle.std.proofs.lemmas.List.{map-append, take_more}
+use Rattle.std.proofs.Common.{◌∙◌}
+use Rattle.hx_cli.proofs.Sources.{named_next}
 use Rattle.hats.specs.Files.{path_of}
 use Rattle.hats.proofs.sources.Goals as goal
 
 pub loop-name-preserved : goal.loop-name-preserved
 loop-name-preserved g c =
-    let names = c.args.names.now in
-    let i = c.loop-name.name-index in
-    let name = c.name-item.result in
-    let pushed : c.push.new.self.items ≡ c.loop-name.sources.items ++ c.in_ok-new.field-0 ∷ [] = c.in_ok-push.ensures.items in
-    let same : path_of c.in_ok-new.field-0 ≡ string_bytes name = c.in_ok-new.ensures ∙ c.as_str.ensures.value in
-    let more = take_more names i name c.loop-name-test.true in
-    rw (pushed, map-append, same, c.loop-name.invariant, more, ← c.name-item.is) (sym (map-append string_bytes (take i names) (name ∷ [])))
+    named_next path_of c.loop-name.sources.items c.push.new.self.items c.args.names.now c.loop-name.name-index c.in_ok-new.field-0 c.name-item.result
+    c.loop-name-test.true c.name-item.is c.in_ok-push.ensures.items (c.in_ok-new.ensures ∙ c.as_str.ensures.value) c.loop-name.invariant

@@ -1,7 +1,8 @@
 ghost use Rattle.std.specs.Prelude.{◌≤◌, All, IfOk};
 ghost use Rattle.hx_base.specs.Rows.{IsGood};
 
-use super::histogram_lines;
+use super::count_rows;
+use crate::lines::lines_of;
 use hx_base::Row;
 use std::alloc::{AllocError, Global};
 use std::process::Abort;
@@ -38,7 +39,8 @@ fn check_lines(
     requires { order ≤ 29 }
 {
     let rows = rows_at(alloc, positions)?;
-    let text = histogram_lines(alloc, order, &rows)?;
+    let counts = count_rows(alloc, order, &rows)?;
+    let text = lines_of(alloc, &counts)?;
     assert_eq!(rt; text.as_slice(), wanted);
     Ok(())
 }

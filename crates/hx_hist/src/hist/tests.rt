@@ -120,3 +120,57 @@ fn totals_are_those_of_the_children(rt: HostRuntime) -> Result<(), Fail> {
     }
     Ok(())
 }
+
+// The next of a row of numbers below 2^31 that look random.
+fn next_random(number: u64) -> u64 {
+    (number % (1 << 31) * 1103515245 + 12345) % (1 << 31)
+}
+
+// So many pixels of order 1 that look random, each with a count below 8.
+fn random_pixels(alloc: Global, first: u64, count: usize) -> Result<Vec<(u64, u64)>, AllocError> {
+    let mut number = first;
+    let mut pixels = Vec::new(alloc);
+    for _ in 0..count {
+        number = next_random(number);
+        pixels.push((number / 65536 % 48, number / 8192 % 8))?;
+    }
+    Ok(pixels)
+}
+
+// The count of a pixel by a walk over the list.
+fn count_of(pixels: &[(u64, u64)], wanted: u64) -> u64 {
+    let mut count: u64 = 0;
+    for (pixel, more) in pixels {
+        if *pixel == wanted {
+            count = count.saturating_add(*more);
+        }
+    }
+    count
+}
+
+#[test]
+fn counts_are_those_of_a_plain_walk(rt: HostRuntime) -> Result<(), Fail> {
+    let alloc = rt.alloc();
+    let lefts = random_pixels(alloc, 7, 300)?;
+    let rights = random_pixels(alloc, 1234567, 200)?;
+    let mut hist = hist_of(alloc, lefts.as_slice())?;
+    let other = hist_of(alloc, rights.as_slice())?;
+    for number in 0..48 {
+        let pixel = Pixel { order: 1, number };
+        assert_eq!(rt;
+            hist.total_in(pixel),
+            count_of(&lefts, number),
+            "added at {number}"
+        );
+    }
+    hist.merge(&other)?;
+    let pairs = hist.pairs();
+    for number in 0..48 {
+        let wanted = count_of(&lefts, number).saturating_add(count_of(&rights, number));
+        let mut found = pairs.iter().filter(|pair| pair.pixel == number);
+        let count = found.next().map_or(0, |pair| pair.count);
+        assert_eq!(rt; count, wanted, "merged at {number}");
+        assert!(rt; found.next().is_none());
+    }
+    Ok(())
+}

@@ -1,10 +1,11 @@
-use Rattle.std.proofs.Common.{◌≡◌, Err, List, map, string_bytes, ℕ}
+use Rattle.std.proofs.Common.{◌≡◌, Err, List, map, string_bytes, subst, ℕ}
 use Rattle.std.proofs.lemmas.Result.{IfErr-at_err, IfOk-weaker}
 use Rattle.hx_base.specs.declared.refusal.Refusal.TheVariants.{Usage}
-use Rattle.hx_cli.proofs.Requests.{over_inputs}
+use Rattle.hx_cli.proofs.Requests.{one_meaning, over_inputs}
+use Rattle.hx_cli.specs.FirstRefusal.{IsFirstRefusal, Shows}
 use Rattle.hx_cli.specs.Requests.{command_of}
 use Rattle.hx_cli.specs.Runs.{IsCommandCause, IsOutput, IsTextOf}
-use Rattle.hx_cli.specs.Words.{HasNoMeaning}
+use Rattle.hx_cli.specs.Words.{Command, HasNoMeaning}
 use Rattle.hx_cli.proofs.run.answer_line.Goals as goal
 
 pub answer-requires : goal.answer-requires
@@ -14,7 +15,7 @@ pub returns-in-Some-clause-text : goal.returns-in-Some-clause-text
 returns-in-Some-clause-text g c = λ (bytes : List (List ℕ)). λ tell.
     let words = map string_bytes c.args.words.now in
     let names = map g.Src.Source.label c.args.inputs.now.items in
-    let command = command_of c.in-Some.request names in
+    let command = command_of c.in-Some.request.action names in
     IfOk-weaker c.answer.result (λ text. IsTextOf command names bytes text.items) (λ text. IsOutput words names bytes text.items)
     (λ text is. (command, (over_inputs words names c.in-Some.request c.in-Some.ensures c.requires).0, is)) (c.answer.ensures.text bytes tell)
 
@@ -24,11 +25,13 @@ returns-in-Some-clause-usage g c =
     let names = map g.Src.Source.label c.args.inputs.now.items in
     let cause = IsCommandCause g.Src.Source.told g.Src.Source.label g.Src.Source.faults c.args.inputs.now.items c.answer.new.inputs.items in (
       λ (e : c.answer.result ≡ Err Usage). absurd (IfErr-at_err cause e c.answer.ensures.cause),
-      λ (none : HasNoMeaning words). absurd (none (command_of c.in-Some.request names) (over_inputs words names c.in-Some.request c.in-Some.ensures c.requires).0),
+      λ (none : HasNoMeaning words). absurd (none (command_of c.in-Some.request.action names) (over_inputs words names c.in-Some.request c.in-Some.ensures c.requires).0),
     )
 
-pub returns-in-Some-clause-meant : goal.returns-in-Some-clause-meant
-returns-in-Some-clause-meant g c = λ _.
+pub returns-in-Some-clause-first : goal.returns-in-Some-clause-first
+returns-in-Some-clause-first g c = λ (bytes : List (List ℕ)). λ (command : Command). λ tell. λ means.
     let words = map string_bytes c.args.words.now in
     let names = map g.Src.Source.label c.args.inputs.now.items in
-    (command_of c.in-Some.request names, (over_inputs words names c.in-Some.request c.in-Some.ensures c.requires).0)
+    let mine = command_of c.in-Some.request.action names in
+    let same : mine ≡ command = one_meaning words mine command (over_inputs words names c.in-Some.request c.in-Some.ensures c.requires).0 means in
+    subst (λ (k : Command). Shows (IsFirstRefusal k names bytes) c.answer.result) same (c.answer.ensures.first bytes tell)

@@ -1,10 +1,9 @@
-use Rattle.std.proofs.Common.{◌<◌, length, arith}
-use Rattle.std.proofs.lemmas.List.{length-map}
-use Rattle.hx_cli.proofs.Sources.{of_name}
-use Rattle.hx_cli.specs.Words.{IsCsvWord}
+use Rattle.std.proofs.Common.{List, ℕ, ◌∙◌}
+use Rattle.hx_cli.proofs.HistText.{lines_are}
 use Rattle.hx_cli.proofs.run.histogram.Goals as goal
 
-pub read_input-requires : goal.read_input-requires
-read_input-requires g c =
-    let some : 0 < length c.args.inputs.now.items = omega (arith, length-map c.args.inputs.now.items g.Src.Source.label, c.requires.one) in
-    (of_name IsCsvWord g.Src.Source.label c.args.inputs.now.items 0 c.index_mut-source.result.now some c.index_mut-source.ensures.value c.requires.each).csv
+pub returns-in-Ok-clause-text : goal.returns-in-Ok-clause-text
+returns-in-Ok-clause-text g c = λ (bytes : List (List ℕ)). λ tell.
+    let counts = c.in_ok-counts.ensures in
+    let read = counts.counts bytes tell in
+    (read.0, read.1, c.in-Ok.ensures.lines ∙ lines_are c.args.order _ read.0 c.in_ok-counts.counts.pairs counts.order c.in-Ok.ensures.histogram read.2)

@@ -1,13 +1,10 @@
-use Rattle.std.proofs.Common.{◌≡◌, ◌++◌, ◌∷◌, ◌∙◌, [], string_bytes, sym, take}
-use Rattle.std.proofs.lemmas.List.{map-append, take_more}
+use Rattle.std.proofs.Common.{◌∙◌}
+use Rattle.hx_mem.specs.Sources.{Memory}
+use Rattle.hx_cli.proofs.Sources.{named_next}
+use Rattle.hx_cli.specs.declared.tests.slow.Slow.{Slow}
 use Rattle.hx_cli.proofs.tests.sources.Goals as goal
 
 pub loop-name-preserved : goal.loop-name-preserved
 loop-name-preserved c =
-    let names = c.args.names.now in
-    let i = c.loop-name.name-index in
-    let name = c.name-item.result in
-    let pushed : c.push.new.self.items ≡ c.loop-name.sources.items ++ c.in_ok-source.field-0 ∷ [] = c.in_ok-push.ensures.items in
-    let same : c.in_ok-source.field-0.inner.name ≡ string_bytes name = c.in_ok-source.ensures ∙ c.as_str.ensures.value in
-    let more = take_more names i name c.loop-name-test.true in
-    rw (pushed, map-append, same, c.loop-name.invariant, more, ← c.name-item.is) (sym (map-append string_bytes (take i names) (name ∷ [])))
+    named_next (λ (source : Slow Memory). source.inner.name) c.loop-name.sources.items c.push.new.self.items c.args.names.now c.loop-name.name-index c.in_ok-source.field-0 c.name-item.result
+    c.loop-name-test.true c.name-item.is c.in_ok-push.ensures.items (c.in_ok-source.ensures ∙ c.as_str.ensures.value) c.loop-name.invariant
