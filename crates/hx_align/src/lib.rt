@@ -1,0 +1,9 @@
+//! Alignment: the partitions of a catalogue, from a histogram of its rows.
+#![tactic(auto)]
+
+mod aligning;
+mod descent;
+mod plan;
+
+pub use aligning::align;
+pub use plan::{AlignRefusal, Plan, PlanRow};
