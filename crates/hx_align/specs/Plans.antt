@@ -1,5 +1,5 @@
 -- Plans: the partitions of counted rows, and what an alignment answers.
-use Rattle.std.specs.Prelude.{◌≡◌, ◌<◌, ◌≤◌, ⊤, ℕ, List, All, Result, Ok, Err, length, map}
+use Rattle.std.specs.Prelude.{◌≡◌, ◌<◌, ◌≤◌, ◌++◌, ⊤, ℕ, List, All, Result, Ok, Err, length, map}
 use Rattle.hx_base.specs.declared.pixel.Pixel.{Pixel}
 use Rattle.hx_base.specs.Partitions.{ArePartitions, IsFirstOverfull, NothingOverfull}
 use Rattle.hx_base.specs.Pixels.{AreDisjointInOrder}
@@ -14,6 +14,12 @@ pixels_of rows = map (λ row. row.pixel) rows
 pub record IsPlanOf (count : Pixel → ℕ) (lowest highest threshold : ℕ) (rows : List PlanRow) : Type 0 where
   pub partitions : ArePartitions count lowest highest threshold (pixels_of rows)
   pub counts : All (λ row. row.count ≡ count row.pixel) rows
+
+-- the plan of some counts is put behind the rows of a list
+pub record AppendsPlan (count : Pixel → ℕ) (lowest highest threshold : ℕ) (old new : List PlanRow) : Type 0 where
+  pub more : List PlanRow
+  pub plan : IsPlanOf count lowest highest threshold more
+  pub appended : new ≡ old ++ more
 
 -- there are so many partitions
 pub record HasPartitions (count : Pixel → ℕ) (lowest highest threshold found : ℕ) : Type 0 where

@@ -1,6 +1,7 @@
 //! The partitions of a histogram.
-ghost use Rattle.std.specs.Prelude.{◌≡◌, ◌<◌, ◌≤◌, ◌×◌, ¬◌, ℕ, IfSome, IfNone, All, AllPairs, Contains};
-ghost use Rattle.hx_hist.specs.Histograms.{total_in};
+ghost use Rattle.std.specs.Prelude.{◌≡◌, ◌≤◌};
+ghost use Rattle.hx_hist.specs.Histograms.{IsHistogram, total_in};
+ghost use Rattle.hx_base.specs.Partitions.{IsFirstOverfull, NothingOverfull};
 ghost use Rattle.hx_align.specs.Plans.{IsAligned};
 
 use crate::descent::append_partitions;
@@ -9,6 +10,12 @@ use hx_hist::{Hist, Pair};
 use std::alloc::Global;
 
 const MOST_PARTITIONS: usize = 100_000;
+
+// The first pair with more rows than the threshold.
+fn first_overfull(pairs: &[Pair], threshold: u64) -> Option<&Pair>
+{
+    pairs.iter().find(|pair| pair.count > threshold)
+}
 
 /// The partitions of counted rows: the largest pixels of orders from the lowest to the highest that contain at
 /// most so many rows as the threshold. The histogram is one of the highest order.
