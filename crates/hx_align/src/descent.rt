@@ -1,12 +1,21 @@
 //! Cutting counted pixels into partitions.
-ghost use Rattle.std.specs.Prelude.{◌≡◌, ◌+◌, ◌*◌, ◌/◌, ◌^◌, ◌<◌, ◌≤◌, ◌≢◌, All, OnOk, IfSome, length, take, slice_get};
+ghost use Rattle.std.specs.Prelude.{◌≡◌, ◌+◌, ◌*◌, ◌/◌, ◌^◌, ◌<◌, ◌≤◌, ◌≢◌, All, OnOk, length, take, slice_index_or};
 ghost use Rattle.hx_hist.specs.Histograms.{IsHistogram, total_in, total_of};
+ghost use Rattle.hx_hist.specs.declared.hist.Pair.{Pair};
 ghost use Rattle.hx_align.specs.Plans.{AppendsPlan};
 
 use crate::plan::PlanRow;
 use hx_base::Pixel;
 use hx_hist::Pair;
 use std::alloc::AllocError;
+
+// The pixel so many orders above in which a pixel lies.
+fn ancestor(pixel: u64, steps: u8) -> u64
+    requires { steps ≤ 29 }
+    ensures { result ≡ pixel / 4 ^ steps }
+{
+    pixel >> (2 * steps)
+}
 
 // The pairs at the head of a list that lie in one pixel.
 #[derive(Clone, Copy)]
@@ -24,13 +33,14 @@ fn first_run(pairs: &[Pair], steps: u8) -> Run
     ensures some { 0 < result.pairs }
     ensures within { result.pairs ≤ length pairs.now }
     ensures run { All (λ pair. pair.pixel / 4 ^ steps ≡ result.number) (take result.pairs pairs.now) }
-    ensures end { IfSome (slice_get pairs.now result.pairs) (λ pair. pair.pixel / 4 ^ steps ≢ result.number) }
+    ensures end { (d : Pair) → result.pairs < length pairs.now →
+        (slice_index_or pairs.now result.pairs d).pixel / 4 ^ steps ≢ result.number }
     ensures count { result.count ≡ total_of (take result.pairs pairs.now) }
 {
-    let number = pairs[0].pixel >> (2 * steps);
+    let number = ancestor(pairs[0].pixel, steps);
     let mut count = 0;
     for (i, pair) in pairs.iter().enumerate() {
-        if pair.pixel >> (2 * steps) != number {
+        if ancestor(pair.pixel, steps) != number {
             return Run { number, pairs: i, count };
         }
         count += pair.count;
