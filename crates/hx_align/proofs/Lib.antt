@@ -1,2 +1,4 @@
 pub mod Joining
+pub mod Overfull
 pub mod Runs
+pub mod Whole
