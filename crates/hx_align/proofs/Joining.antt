@@ -108,7 +108,7 @@ module _ (lowest highest threshold number : ℕ) (front run both : Pixel → ℕ
           | inr off ↦
               let lt : lowest < pixel.order = omega (arith, h.not_lower) in
               let up = same (parent pixel) (is_parent pixel is lt) (λ e. ne (sym (parent_above pixel lt) ∙ e)) in
-              elim h.largest [ | inl least ↦ inl least | inr more ↦ inr (omega (arith, up, more)) ]
+              elim h.largest [ inl least ↦ inl least | inr more ↦ inr (omega (arith, up, more)) ]
         ];
       }
 
@@ -214,7 +214,7 @@ module _ (lowest highest threshold number : ℕ) (front run both : Pixel → ℕ
           let lt : lowest < pixel.order = omega (arith, h.not_lower) in
           let up = within (parent pixel) (is_parent pixel is lt) (parent_above pixel lt ∙ same) in
           let no_more = joins.grows (parent pixel) in
-          elim h.largest [ | inl least ↦ absurd (off least) | inr more ↦ absurd (omega (arith, up, no_more, more)) ]
+          elim h.largest [ inl least ↦ absurd (off least) | inr more ↦ absurd (omega (arith, up, no_more, more)) ]
     ]
 
     single : (x y : Pixel) → Contains (x ∷ []) y → x ≡ y
@@ -278,7 +278,7 @@ module _ (lowest highest threshold number : ℕ) (front run both : Pixel → ℕ
                   not_higher = h.not_higher;
                   some = omega (arith, here, h.some);
                   most = omega (arith, here, h.most);
-                  largest = elim h.largest [ | inl least ↦ absurd (off least) | inr higher ↦ inr (omega (arith, up, higher)) ];
+                  largest = elim h.largest [ inl least ↦ absurd (off least) | inr higher ↦ inr (omega (arith, up, higher)) ];
                 }
           ]
 

@@ -1,3 +1,4 @@
+pub mod Carried
 pub mod Joining
 pub mod Overfull
 pub mod Runs

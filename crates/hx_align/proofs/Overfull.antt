@@ -62,9 +62,9 @@ module _ (order threshold : ℕ) (pairs : List Pair) (h : IsHistogram order pair
       let at = pair_in (record { order = order; number = number }) order pairs (omega (arith, over.more)) in
       let e : order - order ≡ 0 = omega arith in
       let is = λ (d : Pair).
-          let here : (get_or pairs at.0 d).pixel / 1 ≡ number = subst (λ (s : ℕ). (get_or pairs at.0 d).pixel / 4 ^ s ≡ number) e (at.2 d) in
-          let same : (get_or pairs at.0 d).pixel ≡ number = omega (arith, here) in
-          same in
+      let here : (get_or pairs at.0 d).pixel / 1 ≡ number = subst (λ (s : ℕ). (get_or pairs at.0 d).pixel / 4 ^ s ≡ number) e (at.2 d) in
+      let same : (get_or pairs at.0 d).pixel ≡ number = omega (arith, here) in
+      same in
       record {
         k = at.0;
         within = at.1;

@@ -41,7 +41,11 @@ fn first_run(pairs: &[Pair], steps: u8) -> Run
     let mut count = 0;
     for (i, pair) in pairs.iter().enumerate() {
         if ancestor(pair.pixel, steps) != number {
-            return Run { number, pairs: i, count };
+            return Run {
+                number,
+                pairs: i,
+                count,
+            };
         }
         count += pair.count;
     }

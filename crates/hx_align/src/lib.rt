@@ -4,6 +4,8 @@
 mod aligning;
 mod descent;
 mod plan;
+#[cfg(test)]
+mod tests;
 
 pub use aligning::align;
 pub use plan::{AlignRefusal, Plan, PlanRow};

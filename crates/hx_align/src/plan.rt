@@ -45,14 +45,9 @@ impl Plan {
 #[derive(Clone, Copy, Debug, PartialEq, Eq)]
 pub enum AlignRefusal {
     /// A pixel of the highest order has more rows than the threshold: the least such one, with its count.
-    Overfull {
-        pixel: u64,
-        count: u64,
-    },
+    Overfull { pixel: u64, count: u64 },
     /// There are more than 100000 partitions: so many.
-    TooMany {
-        found: u64,
-    },
+    TooMany { found: u64 },
     /// Memory ran out.
     Memory,
 }
