@@ -3,9 +3,14 @@ use Rattle.std.specs.Prelude.{◌≡◌, ◌<◌, ◌≤◌, ◌++◌, ⊤, ℕ,
 use Rattle.hx_base.specs.declared.pixel.Pixel.{Pixel}
 use Rattle.hx_base.specs.Partitions.{ArePartitions, IsFirstOverfull, NothingOverfull}
 use Rattle.hx_base.specs.Pixels.{AreDisjointInOrder}
+use Rattle.hx_hist.specs.Histograms.{Histogram, total_in}
 use Rattle.hx_align.specs.declared.plan.PlanRow.{PlanRow}
 use Rattle.hx_align.specs.declared.plan.AlignRefusal.{AlignRefusal}
 use Rattle.hx_align.specs.declared.plan.AlignRefusal.TheVariants as refusal
+
+-- how many rows of a histogram each pixel contains
+abbrev pub totals_of : Histogram → Pixel → ℕ
+totals_of hist pixel = total_in pixel hist.order hist.pairs
 
 abbrev pub pixels_of : List PlanRow → List Pixel
 pixels_of rows = map (λ row. row.pixel) rows

@@ -1,8 +1,7 @@
 //! The partitions of a histogram.
 ghost use Rattle.std.specs.Prelude.{◌≡◌, ◌≤◌, All, IfNone, IfOk, IfSome, find, nat_lt};
-ghost use Rattle.hx_hist.specs.Histograms.{total_in};
 ghost use Rattle.hx_base.specs.Partitions.{IsFirstOverfull, NothingOverfull};
-ghost use Rattle.hx_align.specs.Plans.{IsAligned, IsPlanOf};
+ghost use Rattle.hx_align.specs.Plans.{IsAligned, IsPlanOf, totals_of};
 
 use crate::descent::append_partitions;
 use crate::plan::{AlignRefusal, Plan, PlanRow};
@@ -20,9 +19,9 @@ fn first_above(pairs: &[Pair], threshold: u64) -> Option<Pair>
 
 // The first pair whose pixel is overfull.
 fn first_overfull(hist: &Hist, threshold: u64) -> Option<Pair>
-    ensures found { IfSome result (λ pair. IsFirstOverfull (λ pixel. total_in pixel hist.now.order hist.now.pairs) hist.now.order threshold pair.pixel) }
-    ensures count { IfSome result (λ pair. pair.count ≡ total_in (record { order = hist.now.order; number = pair.pixel }) hist.now.order hist.now.pairs) }
-    ensures none { IfNone result (NothingOverfull (λ pixel. total_in pixel hist.now.order hist.now.pairs) hist.now.order threshold) }
+    ensures found { IfSome result (λ pair. IsFirstOverfull (totals_of hist.now) hist.now.order threshold pair.pixel) }
+    ensures count { IfSome result (λ pair. pair.count ≡ totals_of hist.now (record { order = hist.now.order; number = pair.pixel })) }
+    ensures none { IfNone result (NothingOverfull (totals_of hist.now) hist.now.order threshold) }
     ensures fits { IfNone result (All (λ pair. pair.count ≤ threshold) hist.now.pairs) }
 {
     first_above(hist.pairs(), threshold)
@@ -37,7 +36,7 @@ fn partitions_of(
 ) -> Result<Vec<PlanRow>, AllocError>
     requires lowest { lowest ≤ hist.now.order }
     requires fits { All (λ pair. pair.count ≤ threshold) hist.now.pairs }
-    ensures { IfOk result (λ rows. IsPlanOf (λ pixel. total_in pixel hist.now.order hist.now.pairs) lowest hist.now.order threshold rows.items) }
+    ensures { IfOk result (λ rows. IsPlanOf (totals_of hist.now) lowest hist.now.order threshold rows.items) }
 {
     let mut rows = Vec::new(alloc);
     append_partitions(&mut rows, hist.pairs(), lowest, hist.order(), threshold)?;
@@ -48,7 +47,7 @@ fn partitions_of(
 /// most so many rows as the threshold. The histogram is one of the highest order.
 ///
 /// The first pixel of the highest order with more rows than the threshold is refused as overfull, and then more
-/// than 100000 partitions. Each pair is looked at once at each order at most.
+/// than 100000 partitions. Each pair is summed up once at each order at most.
 pub fn align(
     alloc: Global,
     hist: &Hist,
@@ -58,7 +57,7 @@ pub fn align(
 ) -> Result<Plan, AlignRefusal>
     requires order { hist.now.order ≡ highest }
     requires lowest { lowest ≤ highest }
-    ensures { IsAligned (λ pixel. total_in pixel highest hist.now.pairs) lowest highest threshold result }
+    ensures { IsAligned (totals_of hist.now) lowest highest threshold result }
 {
     if let Some(pair) = first_overfull(hist, threshold) {
         return Err(AlignRefusal::Overfull {

@@ -1,6 +1,6 @@
-ghost use Rattle.std.specs.Prelude.{◌≡◌, ◌↔◌, ◌+◌, ◌*◌, ◌^◌, ◌<◌, ◌≤◌, IfOk, IsTrue};
-ghost use Rattle.hx_hist.specs.Histograms.{total_in, total_of};
+ghost use Rattle.std.specs.Prelude.{◌≡◌, ◌↔◌, ◌*◌, ◌^◌, ◌<◌, ◌≤◌, IfOk, IsTrue};
 ghost use Rattle.hx_base.specs.Partitions.{IsPartition};
+ghost use Rattle.hx_align.specs.Plans.{totals_of};
 
 use crate::{AlignRefusal, PlanRow, align};
 use hx_base::Pixel;
@@ -143,7 +143,7 @@ fn is_partition(hist: &Hist, lowest: u8, threshold: u64, pixel: Pixel) -> bool
     requires within { pixel.order ≤ 2 }
     requires number { pixel.number < 12 * 4 ^ pixel.order }
     requires lowest { lowest ≤ pixel.order }
-    ensures { IsTrue result ↔ IsPartition (λ p. total_in p 2 hist.now.pairs) lowest 2 threshold pixel }
+    ensures { IsTrue result ↔ IsPartition (totals_of hist.now) lowest 2 threshold pixel }
 {
     let count = hist.total_in(pixel);
     if count == 0 || count > threshold {
