@@ -2,3 +2,6 @@ pub mod Rows
 pub mod Pixels
 pub mod FileWords
 pub mod Refusals
+pub mod Partitions
+pub mod Names
+pub mod Limits

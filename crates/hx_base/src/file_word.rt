@@ -30,7 +30,8 @@ fn is_plain(byte: u8) -> bool
     byte >= 0x20 && byte != 0x7F
 }
 
-fn ends_in(name: &str, suffix: &[u8]) -> bool
+/// Whether a text ends in some bytes.
+pub(crate) fn ends_in(name: &str, suffix: &[u8]) -> bool
     ensures { IsTrue result ↔ EndsIn suffix.now name.now }
 {
     name.as_bytes().ends_with(suffix)

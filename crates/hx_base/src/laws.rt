@@ -1,10 +1,11 @@
-ghost use Rattle.std.specs.Prelude.{◌≡◌, ◌↔◌, List, Contains};
+ghost use Rattle.std.specs.Prelude.{◌≡◌, ◌↔◌, ◌*◌, ◌^◌, ◌<◌, ◌≤◌, ℕ, List, All, Contains, length};
 ghost use Rattle.std.specs.Cmp.{IsTotalOrder};
 ghost use Rattle.std.specs.declared.cmp.Ordering.TheVariants.{Equal};
 ghost use Rattle.hx_base.specs.declared.row.Row.{Row};
 ghost use Rattle.hx_base.specs.declared.pixel.Pixel.{Pixel};
 ghost use Rattle.hx_base.specs.Rows.{row_cmp};
-ghost use Rattle.hx_base.specs.Pixels.{PixelContains, rows_in};
+ghost use Rattle.hx_base.specs.Pixels.{AreDisjointInOrder, PixelContains, count_in, rows_in};
+ghost use Rattle.hx_base.specs.Partitions.{ArePartitions, NothingOverfull, holders_of};
 
 /// The order of rows is total, and rows that compare equal are one row.
 pub fn order_of_rows()
@@ -16,4 +17,17 @@ pub fn order_of_rows()
 pub fn rows_in_a_pixel()
     ensures { (pixel : Pixel) (rows : List Row) (row : Row) →
         Contains (rows_in pixel rows) row ↔ (Contains rows row × PixelContains pixel row) }
+{}
+
+/// Where no pixel of the highest order is overfull, each row of a list lies in exactly one of its partitions.
+/// No position lies in two partitions.
+pub fn partitions_of_rows()
+    ensures each_once { (rows : List Row) (lowest highest threshold : ℕ) (pixels : List Pixel) →
+        All (λ row. row.hp < 12 * 4 ^ 29) rows → lowest ≤ highest → highest ≤ 29 →
+        NothingOverfull (λ pixel. count_in pixel rows) highest threshold →
+        ArePartitions (λ pixel. count_in pixel rows) lowest highest threshold pixels →
+        All (λ row. length (holders_of row.hp pixels) ≡ 1) rows }
+    ensures disjoint { (rows : List Row) (lowest highest threshold : ℕ) (pixels : List Pixel) →
+        ArePartitions (λ pixel. count_in pixel rows) lowest highest threshold pixels →
+        AreDisjointInOrder pixels }
 {}

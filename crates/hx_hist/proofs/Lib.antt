@@ -1,2 +1,4 @@
 pub mod Pairs
 pub mod Children
+pub mod Rows
+pub mod Totals

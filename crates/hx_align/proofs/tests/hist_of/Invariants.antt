@@ -1,0 +1,10 @@
+use Rattle.std.proofs.Common.{◌≡◌, ◌≤◌}
+use Rattle.hx_hist.specs.Histograms.{total_of}
+use Rattle.hx_align.proofs.tests.hist_of.Given as goal
+
+abbrev pub invariant-loop-pixel : goal.invariant-loop-pixel
+invariant-loop-pixel l = record {
+  order : l.hist.order ≡ l.order;
+  total : total_of l.hist.pairs ≡ l.total;
+  range : l.total ≤ 1001000;
+}

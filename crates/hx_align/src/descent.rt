@@ -1,0 +1,96 @@
+//! Cutting counted pixels into partitions.
+ghost use Rattle.std.specs.Prelude.{◌≡◌, ◌+◌, ◌*◌, ◌/◌, ◌^◌, ◌<◌, ◌≤◌, ◌≢◌, All, OnOk, length, take, slice_index_or};
+ghost use Rattle.hx_hist.specs.Histograms.{IsHistogram, total_in, total_of};
+ghost use Rattle.hx_hist.specs.declared.hist.Pair.{Pair};
+ghost use Rattle.hx_align.specs.Plans.{AppendsPlan};
+
+use crate::plan::PlanRow;
+use hx_base::Pixel;
+use hx_hist::Pair;
+use std::alloc::AllocError;
+
+// The pixel so many orders above in which a pixel lies.
+fn ancestor(pixel: u64, steps: u8) -> u64
+    requires { steps ≤ 29 }
+    ensures { result ≡ pixel / 4 ^ steps }
+{
+    pixel >> (2 * steps)
+}
+
+// The pairs at the head of a list that lie in one pixel.
+#[derive(Clone, Copy)]
+struct Run {
+    number: u64,
+    pairs: usize,
+    count: u64,
+}
+
+// The pairs at the head of a list that lie in the same pixel as the first, so many orders above.
+fn first_run(pairs: &[Pair], steps: u8) -> Run
+    requires some { 0 < length pairs.now }
+    requires steps { steps ≤ 29 }
+    requires total { total_of pairs.now < 2 ^ 64 }
+    ensures some { 0 < result.pairs }
+    ensures within { result.pairs ≤ length pairs.now }
+    ensures run { All (λ pair. pair.pixel / 4 ^ steps ≡ result.number) (take result.pairs pairs.now) }
+    ensures end { (d : Pair) → result.pairs < length pairs.now →
+        (slice_index_or pairs.now result.pairs d).pixel / 4 ^ steps ≢ result.number }
+    ensures count { result.count ≡ total_of (take result.pairs pairs.now) }
+{
+    let number = ancestor(pairs[0].pixel, steps);
+    let mut count = 0;
+    for (i, pair) in pairs.iter().enumerate() {
+        if ancestor(pair.pixel, steps) != number {
+            return Run {
+                number,
+                pairs: i,
+                count,
+            };
+        }
+        count += pair.count;
+    }
+    Run {
+        number,
+        pairs: pairs.len(),
+        count,
+    }
+}
+
+/// Appends the partitions of orders from `lowest` on in which counted pixels of order `highest` lie.
+///
+/// A pixel of the lowest order with more rows than the threshold is cut into those of the next order, from its
+/// own pairs alone.
+pub fn append_partitions(
+    rows: &mut Vec<PlanRow>,
+    pairs: &[Pair],
+    lowest: u8,
+    highest: u8,
+    threshold: u64,
+) -> Result<(), AllocError>
+    requires lowest { lowest ≤ highest }
+    requires highest { highest ≤ 29 }
+    requires histogram { IsHistogram highest pairs.now }
+    requires total { total_of pairs.now < 2 ^ 64 }
+    requires fits { All (λ pair. pair.count ≤ threshold) pairs.now }
+    ensures { OnOk result (AppendsPlan (λ pixel. total_in pixel highest pairs.now) lowest highest threshold rows.old.items rows.new.items) }
+{
+    let mut start = 0;
+    while start < pairs.len() {
+        let run = first_run(&pairs[start..], highest - lowest);
+        let end = start + run.pairs;
+        if run.count <= threshold {
+            let pixel = Pixel {
+                order: lowest,
+                number: run.number,
+            };
+            rows.push(PlanRow {
+                pixel,
+                count: run.count,
+            })?;
+        } else {
+            append_partitions(rows, &pairs[start..end], lowest + 1, highest, threshold)?;
+        }
+        start = end;
+    }
+    Ok(())
+}
