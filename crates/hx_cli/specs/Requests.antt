@@ -1,6 +1,6 @@
 -- What a request of the code stands for.
 use Rattle.std.specs.Prelude.{◌≤◌, ℕ, List, length, drop}
-use Rattle.hx_cli.specs.Words.{AreFiles, Command, Histogram, Means}
+use Rattle.hx_cli.specs.Words.{AreFiles, Command, Histogram, Means, Plan}
 use Rattle.hx_cli.specs.declared.words.Action.{Action}
 use Rattle.hx_cli.specs.declared.words.Action.TheVariants as action
 use Rattle.hx_cli.specs.declared.words.Request.{Request}
@@ -8,6 +8,7 @@ use Rattle.hx_cli.specs.declared.words.Request.{Request}
 -- the command, over inputs of these names
 abbrev pub command_of : Action → List (List ℕ) → Command
 command_of (action.Histogram order) names = Histogram order names
+command_of (action.Plan lowest highest threshold) names = Plan lowest highest threshold names
 
 -- the words mean that command, over the inputs that they end in
 pub record IsRequest (words : List (List ℕ)) (request : Request) : Type 0 where
@@ -19,5 +20,11 @@ pub record IsHistogramRequest (order : ℕ) (names : List (List ℕ)) : Type 0 w
   pub in_range : order ≤ 29
   pub files : AreFiles names
 
+pub record IsPlanRequest (lowest highest threshold : ℕ) (names : List (List ℕ)) : Type 0 where
+  pub order : lowest ≤ highest
+  pub in_range : highest ≤ 20
+  pub files : AreFiles names
+
 abbrev pub IsSound : Action → List (List ℕ) → Type 0
 IsSound (action.Histogram order) names = IsHistogramRequest order names
+IsSound (action.Plan lowest highest threshold) names = IsPlanRequest lowest highest threshold names

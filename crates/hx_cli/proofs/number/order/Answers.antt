@@ -1,7 +1,7 @@
 use Rattle.std.proofs.Common.{ℕ, ◌≡◌, ◌≤◌, arith, sym, ◌∙◌}
 use Rattle.std.proofs.lemmas.Fmt.{decimal_injective}
 use Rattle.std.specs.Fmt.{decimal}
-use Rattle.hx_cli.proofs.words.order.Goals as goal
+use Rattle.hx_cli.proofs.number.order.Goals as goal
 
 pub returns-then-order-gt-HIGHEST_ORDER : goal.returns-then-order-gt-HIGHEST_ORDER
 returns-then-order-gt-HIGHEST_ORDER c = λ (k : ℕ). λ (low : k ≤ 29). λ (is : c.args.word.now ≡ decimal k).

@@ -1,6 +1,6 @@
 use Rattle.std.proofs.Common.{List, ℕ, ◌∙◌}
 use Rattle.hx_cli.proofs.HistText.{lines_are}
-use Rattle.hx_cli.proofs.run.histogram.Goals as goal
+use Rattle.hx_cli.proofs.commands.histogram.Goals as goal
 
 pub returns-in-Ok-clause-text : goal.returns-in-Ok-clause-text
 returns-in-Ok-clause-text g c = λ (bytes : List (List ℕ)). λ tell.

@@ -2,7 +2,7 @@ use Rattle.std.proofs.Common.{ℕ, ◌^◌, ◌<◌, ◌≡◌, arith, rules}
 use Rattle.std.specs.Fmt.{decimal}
 use Rattle.hx_cli.proofs.Numbers.{decimal_begins, found}
 use Rattle.hx_cli.specs.Words.{BeginsNumber}
-use Rattle.hx_cli.proofs.words.number.Goals as goal
+use Rattle.hx_cli.proofs.number.number.Goals as goal
 
 pub returns-then-not-begins_a_number : goal.returns-then-not-begins_a_number
 returns-then-not-begins_a_number c = λ (n : ℕ). λ (small : n < 2 ^ 64). λ (is : c.args.word.now ≡ decimal n).
