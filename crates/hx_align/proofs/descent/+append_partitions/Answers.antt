@@ -1,11 +1,8 @@
-use Rattle.std.proofs.Common.{◌↔◌, Bool, false, IsTrue, ◌≡◌, ◌∙◌, ◌+◌, ◌-◌, ◌/◌, ◌^◌, ◌<◌, ◌≤◌, ◌≢◌, [], ℕ, List, All, length, take, drop, get_or, arith, refl, sym, ap, subst, inl, inr}
-use Rattle.std.proofs.lemmas.List.{append-nil, take_all}
+use Rattle.std.proofs.Common.{◌↔◌, Bool, false, IsTrue, ◌≡◌, ◌+◌, ◌-◌, ◌<◌, ◌≤◌, ℕ, length, take, drop, arith, inl, inr}
+use Rattle.std.proofs.lemmas.List.{take_all}
 use Rattle.std.proofs.lemmas.Bool.{cases_lt}
-use Rattle.hx_hist.specs.Histograms.{total_in, total_of}
-use Rattle.hx_hist.specs.declared.hist.Pair.{Pair}
-use Rattle.hx_align.specs.Plans.{AppendsPlan}
-use Rattle.hx_align.proofs.Joining.{nothing_planned}
-use Rattle.hx_align.proofs.Runs.{Cuttable, IsRun, appends_cut, appends_whole, is_below_highest, is_run_of_rest, part_cuttable, part_total, parted_at_start, parted_behind, rest_is}
+use Rattle.hx_hist.specs.Histograms.{total_of}
+use Rattle.hx_align.proofs.Runs.{Cuttable, appends_cut, appends_whole, is_below_highest, is_run_of_rest, part_cuttable, part_total, parted_behind, rest_is}
 use Rattle.hx_align.proofs.descent.+append_partitions.Goals as goal
 
 -- what doesn't fit is more
