@@ -81,7 +81,8 @@ pub fn append_partitions(
     requires histogram { IsHistogram highest pairs.now }
     requires total { total_of pairs.now < 2 ^ 64 }
     requires fits { All (λ pair. pair.count ≤ threshold) pairs.now }
-    ensures { OnOk result (AppendsPlan (λ pixel. total_in pixel highest pairs.now) lowest highest threshold rows.old.items rows.new.items) }
+    ensures { OnOk result (AppendsPlan (λ pixel. total_in pixel highest pairs.now) lowest highest threshold
+        rows.old.items rows.new.items) }
 {
     let mut start = 0;
     while start < pairs.len() {
