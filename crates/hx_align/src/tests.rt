@@ -159,7 +159,8 @@ fn is_partition(hist: &Hist, lowest: u8, threshold: u64, pixel: Pixel) -> bool
     hist.total_in(parent) > threshold
 }
 
-// The partitions of an order-2 histogram: all pixels of its orders are tried, and those that pass are put in order.
+// The partitions of an order-2 histogram: all pixels of its orders are tried, and those that pass are put in
+// order.
 fn listed(
     alloc: Global,
     hist: &Hist,
