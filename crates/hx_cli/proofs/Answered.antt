@@ -1,5 +1,5 @@
 -- What an answer and its printing say of a run.
-use Rattle.std.proofs.Common.{◌≡◌, ◌≢◌, ◌<◌, ◌⊎◌, ℕ, zero, suc, List, [], ◌∷◌, Option, Some, None, IfSome, IsOkAnd, Result, Ok, Err, IfErr, IfOk, Vec, Global, refl, ap, arith, sym, inl, inr, length, ◌∙◌}
+use Rattle.std.proofs.Common.{◌≡◌, ◌≢◌, ◌<◌, ◌⊎◌, ℕ, List, [], ◌∷◌, Option, Some, None, IfSome, IsOkAnd, Result, Ok, Err, IfErr, IfOk, Vec, Global, refl, ap, arith, inl, inr, length}
 use Rattle.hx_base.specs.declared.refusal.Refusal.{Refusal}
 use Rattle.hx_base.specs.declared.refusal.Refusal.TheVariants as refusal
 use Rattle.hx_outside.specs.Faults.{Rose}

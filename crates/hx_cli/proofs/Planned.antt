@@ -1,5 +1,5 @@
 -- Partitions of a histogram are those of the rows that it counts.
-use Rattle.std.proofs.Common.{◌≡◌, ◌≤◌, ◌++◌, ◌∷◌, ◌⊎◌, ◌∙◌, ℕ, List, [], All, Option, Some, Result, Ok, Err, map, refl, subst, ap, inl, inr, arith}
+use Rattle.std.proofs.Common.{◌≡◌, ◌≤◌, ◌++◌, ◌∷◌, ◌∙◌, ℕ, List, [], Option, Some, Result, Ok, Err, map, refl, subst, ap, inl, inr, arith}
 use Rattle.std.specs.List.{AllByRecursion, flat_map}
 use Rattle.std.proofs.lemmas.List.Elements.{recursion_from_All}
 use Rattle.hx_align.proofs.Carried.{plan_over}
@@ -7,7 +7,6 @@ use Rattle.hx_align.specs.Plans.{IsPlanOf, pixels_of, totals_of}
 use Rattle.hx_align.specs.declared.plan.PlanRow.{PlanRow}
 use Rattle.hx_base.proofs.Partitions.{Agree, first_overfull_over, nothing_overfull_over, partitions_over}
 use Rattle.hx_base.specs.Pixels.{count_in}
-use Rattle.hx_base.specs.declared.pixel.Pixel.{Pixel}
 use Rattle.hx_base.specs.declared.refusal.Refusal.{Refusal}
 use Rattle.hx_base.specs.declared.refusal.Refusal.TheVariants as refusal
 use Rattle.hx_base.specs.declared.row.Row.{Row}

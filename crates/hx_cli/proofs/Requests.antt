@@ -1,5 +1,5 @@
 -- What the words of a line mean, over the inputs that they name.
-use Rattle.std.proofs.Common.{◌≡◌, ◌<◌, ◌≤◌, ◌++◌, ◌∷◌, ℕ, IfSome, List, Option, None, Some, suc, ◌+◌, length, ap, arith, drop, refl, ◌∙◌, sym}
+use Rattle.std.proofs.Common.{◌≡◌, ◌≤◌, ◌++◌, ◌∷◌, ℕ, IfSome, List, Option, None, Some, suc, ◌+◌, length, ap, arith, drop, refl, ◌∙◌, sym}
 use Rattle.std.proofs.lemmas.Fmt.{decimal_injective}
 use Rattle.std.specs.Fmt.{decimal}
 use Rattle.hx_cli.specs.Requests.{IsRequest, IsSound, command_of}

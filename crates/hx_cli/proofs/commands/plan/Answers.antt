@@ -1,4 +1,4 @@
-use Rattle.std.proofs.Common.{◌≤◌, ◌≡◌, List, Option, arith, map, ℕ}
+use Rattle.std.proofs.Common.{◌≤◌, ◌≡◌, List, arith, map, ℕ}
 use Rattle.std.specs.List.{flat_map}
 use Rattle.std.proofs.lemmas.Result.{IfOk-weaker}
 use Rattle.hx_align.specs.Plans.{IsPlanOf, totals_of}

@@ -1,8 +1,7 @@
-use Rattle.std.proofs.Common.{List, None, String, Global, arith, drop, length, map, rules, string_bytes, ap, sym, ◌≡◌, ◌≤◌, ◌∙◌, ◌∷◌, ℕ}
+use Rattle.std.proofs.Common.{List, None, String, Global, arith, drop, map, rules, string_bytes, ap, sym, ◌≡◌, ◌∙◌, ℕ}
 use Rattle.std.proofs.Math.ListN.{get_or-map}
 use Rattle.std.proofs.lemmas.List.{drop-map, length-map, take_rest}
 use Rattle.hx_cli.proofs.OptionWords.{name_alone, read_more, rest_refused, two_words, value_refused}
-use Rattle.hx_cli.specs.Options.{word_of}
 use Rattle.hx_cli.proofs.options.+read_options.Goals as goal
 
 abbrev text : String Global → List ℕ
