@@ -1,4 +1,5 @@
 pub mod Rows
 pub mod Pixels
+pub mod Touching
 pub mod FileWords
 pub mod Refusals
