@@ -1,0 +1,8 @@
+//! HEALPix's nested pixels: where they stand on their faces, their parents and children, and which touch.
+#![tactic(auto)]
+
+mod order;
+mod place;
+
+pub use order::{at_order, first_child, parent};
+pub use place::{FaceXy, join_xy, split};
