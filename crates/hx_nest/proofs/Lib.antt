@@ -1,1 +1,5 @@
 pub mod Interleaved
+mod Sectors
+mod Table
+mod Spots
+mod Corners

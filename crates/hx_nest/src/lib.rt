@@ -3,6 +3,7 @@
 
 mod order;
 mod place;
+mod side;
 
 pub use order::{at_order, first_child, parent};
 pub use place::{FaceXy, join_xy, split};
