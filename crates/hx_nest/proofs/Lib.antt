@@ -3,3 +3,4 @@ mod Sectors
 mod Table
 mod Spots
 mod Corners
+mod Law

@@ -1,5 +1,5 @@
 -- The usual table of faces by sides, and where a place at a side comes to on the face beyond it.
-use Rattle.std.specs.Prelude.{◌≡◌, List, [], ◌∷◌, ℕ, if◌then◌else◌, nat_lt, slice_index}
+use Rattle.std.specs.Prelude.{◌≡◌, ◌⊎◌, List, [], ◌∷◌, ℕ, if◌then◌else◌, nat_lt, slice_index}
 use Rattle.hx_nest.specs.declared.side.Side.{Side}
 use Rattle.hx_nest.specs.declared.side.Side.TheVariants.{South, SouthEast, East, SouthWest, NorthEast, West, NorthWest, North}
 
@@ -44,3 +44,7 @@ pub record AreJoined (n face x y other a b : ℕ) : Type 0 where
   pub on_side : LiesOn n side x y
   pub joined : slice_index (faces_beyond side) face ≡ other
   pub place : beyond n side face x y ≡ (a, b)
+
+-- two corners of faces are the same one, or the table joins them
+abbrev pub AreOneCorner : ℕ → ℕ → ℕ → ℕ → ℕ → ℕ → ℕ → Type 0
+AreOneCorner n face x y other a b = ((face ≡ other) × (x ≡ a) × (y ≡ b)) ⊎ AreJoined n face x y other a b

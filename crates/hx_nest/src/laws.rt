@@ -1,0 +1,11 @@
+//! Laws on corner points and on touching.
+ghost use Rattle.std.specs.Prelude.{◌≡◌, ◌↔◌, ◌<◌, ◌≤◌, ℕ};
+ghost use Rattle.hx_base.specs.Touching.{corner_point};
+ghost use Rattle.hx_nest.specs.Sides.{AreOneCorner};
+
+/// Two corners of faces of n * n pixels are one point of the sphere exactly where they are the same corner, or
+/// lie on a side or at a vertex at which the table of sides joins their faces, at the places that it gives.
+pub fn corners_of_faces()
+    ensures { (n face x y other a b : ℕ) → 0 < n → face < 12 → other < 12 → x ≤ n → y ≤ n → a ≤ n → b ≤ n
+        → (corner_point n face x y ≡ corner_point n other a b) ↔ AreOneCorner n face x y other a b }
+{}
