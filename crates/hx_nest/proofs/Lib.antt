@@ -4,3 +4,4 @@ mod Table
 mod Spots
 mod Corners
 mod Law
+mod Lists

@@ -1,11 +1,13 @@
 //! HEALPix's nested pixels: where they stand on their faces, their parents and children, and which touch.
 #![tactic(auto)]
 
+mod around;
 mod laws;
 mod order;
 mod place;
 mod side;
 
+pub use around::Around;
 pub use laws::corners_of_faces;
 pub use order::{at_order, first_child, parent};
 pub use place::{FaceXy, join_xy, split};
