@@ -6,6 +6,7 @@ mod laws;
 mod order;
 mod place;
 mod side;
+mod step;
 
 pub use around::Around;
 pub use laws::corners_of_faces;
