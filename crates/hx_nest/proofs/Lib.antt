@@ -5,3 +5,4 @@ mod Spots
 mod Corners
 mod Law
 mod Lists
+mod Reached
