@@ -6,3 +6,4 @@ mod Corners
 mod Law
 mod Lists
 mod Reached
+mod Touches

@@ -8,17 +8,11 @@ use Rattle.hx_nest.specs.declared.side.Side.TheVariants.{South, SouthEast, East,
 use Rattle.hx_nest.specs.declared.step.Coordinate.{Coordinate}
 use Rattle.hx_nest.specs.declared.step.Coordinate.TheVariants.{Below, Within, Above}
 use Rattle.hx_nest.specs.Sides.{faces_beyond, beyond, LiesOn, AreJoined}
-use Rattle.hx_nest.specs.Steps.{IsOnGrid, across, pixel_at}
+use Rattle.hx_nest.specs.Steps.{IsNear, IsOnGrid, across, pixel_at}
 use Rattle.hx_nest.proofs.Law.{by_row, joined_point, one_corner}
 use Rattle.hx_nest.proofs.Sectors.{next}
 use Rattle.hx_nest.proofs.Table as table
 use Rattle.hx_nest.proofs.Table.{Crosses, prev, opposite}
-
--- a coordinate next to x, or x itself
-abbrev pub IsNear : ℕ → ℕ → Coordinate → Type 0
-IsNear last x (Within a) = (a ≤ last) × (a ≤ x + 1) × (x ≤ a + 1)
-IsNear last x Below = x ≡ 0
-IsNear last x Above = x ≡ last
 
 -- two pixels have a corner in common
 abbrev pub SharesCorner : ℕ → ℕ → ℕ → ℕ → ℕ → ℕ → ℕ → Type 0

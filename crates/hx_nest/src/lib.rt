@@ -7,8 +7,10 @@ mod order;
 mod place;
 mod side;
 mod step;
+mod touching;
 
 pub use around::Around;
 pub use laws::corners_of_faces;
 pub use order::{at_order, first_child, parent};
 pub use place::{FaceXy, join_xy, split};
+pub use touching::{neighbours, touch};

@@ -1,7 +1,7 @@
 //! Steps from a pixel to the pixels next to it, also over the sides of its face.
-ghost use Rattle.std.specs.Prelude.{◌≡◌, ◌<◌, ◌≤◌, ◌^◌};
+ghost use Rattle.std.specs.Prelude.{◌≡◌, ◌≢◌, ◌<◌, ◌≤◌, ◌^◌, ℕ};
 ghost use Rattle.hx_nest.specs.Sides.{beyond};
-ghost use Rattle.hx_nest.specs.Steps.{across, after, before, pixel_at};
+ghost use Rattle.hx_nest.specs.Steps.{IsNear, across, after, before, pixel_at};
 
 use crate::place::FaceXy;
 use crate::side::{NONE, Side};
@@ -16,7 +16,9 @@ pub enum Coordinate {
 
 /// One step back.
 pub fn before(x: u32) -> Coordinate
-    ensures { result ≡ before x }
+    ensures value { result ≡ before x }
+    ensures near { (last : ℕ) → x ≤ last → IsNear last x result }
+    ensures moved { result ≢ Coordinate.Within x }
 {
     if x == 0 {
         Coordinate::Below
@@ -29,7 +31,9 @@ pub fn before(x: u32) -> Coordinate
 pub fn after(last: u32, x: u32) -> Coordinate
     requires last { last < 2 ^ 29 }
     requires x { x ≤ last }
-    ensures { result ≡ after last x }
+    ensures value { result ≡ after last x }
+    ensures near { IsNear last x result }
+    ensures moved { result ≢ Coordinate.Within x }
 {
     if x == last {
         Coordinate::Above
