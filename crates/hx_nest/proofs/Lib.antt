@@ -7,3 +7,4 @@ mod Law
 mod Lists
 mod Reached
 mod Touches
+mod Parents

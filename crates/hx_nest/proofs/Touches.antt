@@ -36,7 +36,7 @@ touch_at k p q f x y here touch =
         let first : corner_point (2 ^ k) f (x + i) (y + j) ≡ point = subst (λ (z : ℕ). corner_point (2 ^ k) z (x + i) (y + j) ≡ point) same.0 (subst (λ (z : ℕ). corner_point (2 ^ k) f2 (z + i) (y + j) ≡ point) same.1 (subst (λ (z : ℕ). corner_point (2 ^ k) f2 (x2 + i) (z + j) ≡ point) same.2 e)) in
         record { face = g; a = a; b = b; at = there; shares = (i, j, l, m, hi, hj, hl, hm, first ∙ sym s) }
 
-below_power : (k last x : ℕ) → last + 1 ≡ 2 ^ k → x < 2 ^ k → x ≤ last
+pub below_power : (k last x : ℕ) → last + 1 ≡ 2 ^ k → x < 2 ^ k → x ≤ last
 below_power k last x e h = omega arith
 
 -- a pixel with a place is added by its number
@@ -106,6 +106,16 @@ own x y (Within a) Above h = elim h [ ]
 own x y Below py h = elim h [ ]
 own x y Above py h = elim h [ ]
 
+-- where both coordinates stay, the pixel does
+pub same_pixel : (k p q f x y g a b last : ℕ) (px py : Coordinate) → IsAt k p f x y → IsAt k q g a b → pixel_at last f px py ≡ Some (record { face = g; x = a; y = b }) → px ≡ Within x → py ≡ Within y → p ≡ q
+same_pixel k p q f x y g a b last px py here there e ex ey =
+    let mine : FaceXy = record { face = f; x = x; y = y } in
+    let its : FaceXy = record { face = g; x = a; y = b } in
+    let o : Some mine ≡ pixel_at last f px py = rw (ex, ey) refl in
+    let same : mine ≡ its = cc in
+    let place = subst (λ (z : FaceXy). IsAt k q z.face z.x z.y) (sym same) there in
+    here.number ∙ sym place.number
+
 module _ (k p f x y last : ℕ) (here : IsAt k p f x y) (size : last + 1 ≡ 2 ^ k) where
   hx : x ≤ last
   hx = let lt = here.x_range in omega (arith, lt)
@@ -114,7 +124,7 @@ module _ (k p f x y last : ℕ) (here : IsAt k p f x y) (size : last + 1 ≡ 2 ^
   hy = let lt = here.y_range in omega (arith, lt)
 
   -- a step leads to a pixel that touches
-  step_touches : (px py : Coordinate) → IsNear last x px → IsNear last y py → (px ≡ Within x → py ≡ Within y → ⊥) → (q : ℕ) → HasPlace k (pixel_at last f px py) q → Touch k p q
+  pub step_touches : (px py : Coordinate) → IsNear last x px → IsNear last y py → (px ≡ Within x → py ≡ Within y → ⊥) → (q : ℕ) → HasPlace k (pixel_at last f px py) q → Touch k p q
   step_touches px py nx ny off q =
       go (pixel_at last f px py) refl
     where
@@ -149,13 +159,7 @@ module _ (k p f x y last : ℕ) (here : IsAt k p f x y) (size : last + 1 ≡ 2 ^
         py = py;
         near_x = nx;
         near_y = ny;
-        moved = λ ex ey.
-            let mine : FaceXy = record { face = f; x = x; y = y } in
-            let its : FaceXy = record { face = g; x = a; y = b } in
-            let o : Some mine ≡ pixel_at last f px py = rw (ex, ey) refl in
-            let same : mine ≡ its = cc in
-            let place = subst (λ (z : FaceXy). IsAt k q z.face z.x z.y) (sym same) there in
-            touch.different (here.number ∙ sym place.number);
+        moved = λ ex ey. touch.different (same_pixel k p q f x y g a b last px py here there e ex ey);
         place = subst (λ (z : Option FaceXy). HasPlace k z q) (sym e) there;
       }
 

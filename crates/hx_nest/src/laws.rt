@@ -1,6 +1,6 @@
 //! Laws on corner points and on touching.
-ghost use Rattle.std.specs.Prelude.{◌≡◌, ◌↔◌, ◌<◌, ◌≤◌, ℕ};
-ghost use Rattle.hx_base.specs.Touching.{corner_point};
+ghost use Rattle.std.specs.Prelude.{◌≡◌, ◌↔◌, ◌⊎◌, ◌+◌, ◌/◌, ◌<◌, ◌≤◌, ℕ};
+ghost use Rattle.hx_base.specs.Touching.{corner_point, Touch};
 ghost use Rattle.hx_nest.specs.Sides.{AreOneCorner};
 
 /// Two corners of faces of n * n pixels are one point of the sphere exactly where they are the same corner, or
@@ -8,4 +8,14 @@ ghost use Rattle.hx_nest.specs.Sides.{AreOneCorner};
 pub fn corners_of_faces()
     ensures { (n face x y other a b : ℕ) → 0 < n → face < 12 → other < 12 → x ≤ n → y ≤ n → a ≤ n → b ≤ n
         → (corner_point n face x y ≡ corner_point n other a b) ↔ AreOneCorner n face x y other a b }
+{}
+
+/// A pixel touches another exactly where that one touches it.
+pub fn touching_is_symmetric()
+    ensures { (order p q : ℕ) → Touch order p q → Touch order q p }
+{}
+
+/// The parents of touching pixels are one pixel or touch.
+pub fn parents_of_touching()
+    ensures { (order p q : ℕ) → Touch (order + 1) p q → (p / 4 ≡ q / 4) ⊎ Touch order (p / 4) (q / 4) }
 {}

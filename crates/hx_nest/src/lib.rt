@@ -10,7 +10,7 @@ mod step;
 mod touching;
 
 pub use around::Around;
-pub use laws::corners_of_faces;
+pub use laws::{corners_of_faces, parents_of_touching, touching_is_symmetric};
 pub use order::{at_order, first_child, parent};
 pub use place::{FaceXy, join_xy, split};
 pub use touching::{neighbours, touch};
