@@ -32,12 +32,12 @@ ring n face x y = (2 + face / 4) * n - x - y
 abbrev pub middle : ℕ → ℕ
 middle face = 2 * (face % 4) + (face / 4 + 1) % 2
 
--- the place of a corner of a face on its ring, counted eastwards
+-- the place of a corner of a face on ring v, counted eastwards from the meridian of face 0's west corner
 abbrev pub place_on : ℕ → ℕ → ℕ → ℕ → ℕ → ℕ
-place_on n face x y ring =
-    if ring == 0 || ring == 4 * n then 0
-    else if nat_lt ring n then (face * ring + (n - y)) % (4 * ring)
-    else if nat_lt (3 * n) ring then ((face - 8) * (4 * n - ring) + x) % (4 * (4 * n - ring))
+place_on n face x y v =
+    if v == 0 || v == 4 * n then 0
+    else if nat_lt v n then (face * v + (n - y)) % (4 * v)
+    else if nat_lt (3 * n) v then ((face - 8) * (4 * n - v) + x) % (4 * (4 * n - v))
     else (middle face * n + 8 * n + x - y) % (8 * n)
 
 -- the point of the sphere at corner (x, y) of a face, as its ring and its place on the ring

@@ -141,57 +141,57 @@ module _ (n x y a b : ℕ) (pos : 0 < n) (hx : x ≤ n) (hy : y ≤ n) (ha : a �
   from_north : (c : ℕ) → c < 4 → (g : ℕ) → g < 12 → Rule c g
   from_north c hc = by_row (Rule c)
       (λ d hd e.
-          elim (same_north n c x y d a b hc hd pos hx hy ha hb e) [
-            | itself s t u ↦ stays n c x y d a b s t u
-            | eastward s t u w ↦ joins n NorthEast c x y d a b _ _ _ t (table.north_east_0 n c x y hc) (sym s) (sym u) (sym w)
-            | westward s t u w ↦ joins n NorthWest c x y d a b _ _ _ t (table.north_west_0 n c x y hc) (omega arith) (sym u) (sym w)
-            | across s t u w z ↦ joins n North c x y d a b _ _ _ (t, u) (table.north_0 n c x y hc) (sym s) (sym w) (sym z)
-          ])
+      elim (same_north n c x y d a b hc hd pos hx hy ha hb e) [
+        | itself s t u ↦ stays n c x y d a b s t u
+        | eastward s t u w ↦ joins n NorthEast c x y d a b _ _ _ t (table.north_east_0 n c x y hc) (sym s) (sym u) (sym w)
+        | westward s t u w ↦ joins n NorthWest c x y d a b _ _ _ t (table.north_west_0 n c x y hc) (omega arith) (sym u) (sym w)
+        | across s t u w z ↦ joins n North c x y d a b _ _ _ (t, u) (table.north_0 n c x y hc) (sym s) (sym w) (sym z)
+      ])
       (λ d hd e.
-          elim (same_upper n c x y d a b hc hd pos hx hy ha hb e) [
-            | north_west_of s t u w ↦ joins n SouthEast c x y (4 + d) a b _ _ _ t (table.south_east_0 n c x y hc) (omega arith) (sym u) (sym w)
-            | north_east_of s t u w ↦ joins n SouthWest c x y (4 + d) a b _ _ _ t (table.south_west_0 n c x y hc) (omega arith) (sym u) (sym w)
-          ])
+      elim (same_upper n c x y d a b hc hd pos hx hy ha hb e) [
+        | north_west_of s t u w ↦ joins n SouthEast c x y (4 + d) a b _ _ _ t (table.south_east_0 n c x y hc) (omega arith) (sym u) (sym w)
+        | north_east_of s t u w ↦ joins n SouthWest c x y (4 + d) a b _ _ _ t (table.south_west_0 n c x y hc) (omega arith) (sym u) (sym w)
+      ])
       (λ d hd e.
-          let m = same_far n c x y d a b hc hd pos hx hy ha hb e in
-          joins n South c x y (8 + d) a b _ _ _ (m.1, m.2) (table.south_0 n c x y hc) (omega (arith, m.0)) (sym m.3) (sym m.4))
+      let m = same_far n c x y d a b hc hd pos hx hy ha hb e in
+      joins n South c x y (8 + d) a b _ _ _ (m.1, m.2) (table.south_0 n c x y hc) (omega (arith, m.0)) (sym m.3) (sym m.4))
 
   from_equator : (c : ℕ) → c < 4 → (g : ℕ) → g < 12 → Rule (4 + c) g
   from_equator c hc = by_row (Rule (4 + c))
       (λ d hd e.
-          elim (same_upper n d a b c x y hd hc pos ha hb hx hy (sym e)) [
-            | north_west_of s t u w ↦ joins n NorthWest (4 + c) x y d a b _ _ _ w (table.north_west_1 n c x y hc) (omega arith) u (sym t)
-            | north_east_of s t u w ↦ joins n NorthEast (4 + c) x y d a b _ _ _ u (table.north_east_1 n c x y hc) s (sym t) w
-          ])
+      elim (same_upper n d a b c x y hd hc pos ha hb hx hy (sym e)) [
+        | north_west_of s t u w ↦ joins n NorthWest (4 + c) x y d a b _ _ _ w (table.north_west_1 n c x y hc) (omega arith) u (sym t)
+        | north_east_of s t u w ↦ joins n NorthEast (4 + c) x y d a b _ _ _ u (table.north_east_1 n c x y hc) s (sym t) w
+      ])
       (λ d hd e.
-          elim (same_equator n c x y d a b hc hd pos hx hy ha hb e) [
-            | itself_on s t u ↦ stays n (4 + c) x y (4 + d) a b (omega arith) t u
-            | eastward_on s t u w z ↦ joins n East (4 + c) x y (4 + d) a b _ _ _ (t, u) (table.east_1 n c x y hc) (omega arith) (sym w) (sym z)
-            | westward_on s t u w z ↦ joins n West (4 + c) x y (4 + d) a b _ _ _ (t, u) (table.west_1 n c x y hc) (omega arith) (sym w) (sym z)
-          ])
+      elim (same_equator n c x y d a b hc hd pos hx hy ha hb e) [
+        | itself_on s t u ↦ stays n (4 + c) x y (4 + d) a b (omega arith) t u
+        | eastward_on s t u w z ↦ joins n East (4 + c) x y (4 + d) a b _ _ _ (t, u) (table.east_1 n c x y hc) (omega arith) (sym w) (sym z)
+        | westward_on s t u w z ↦ joins n West (4 + c) x y (4 + d) a b _ _ _ (t, u) (table.west_1 n c x y hc) (omega arith) (sym w) (sym z)
+      ])
       (λ d hd e.
-          elim (same_lower n c x y d a b hc hd pos hx hy ha hb e) [
-            | north_west_above s t u w ↦ joins n SouthEast (4 + c) x y (8 + d) a b _ _ _ t (table.south_east_1 n c x y hc) (omega arith) (sym u) (sym w)
-            | north_east_above s t u w ↦ joins n SouthWest (4 + c) x y (8 + d) a b _ _ _ t (table.south_west_1 n c x y hc) (omega arith) (sym u) (sym w)
-          ])
+      elim (same_lower n c x y d a b hc hd pos hx hy ha hb e) [
+        | north_west_above s t u w ↦ joins n SouthEast (4 + c) x y (8 + d) a b _ _ _ t (table.south_east_1 n c x y hc) (omega arith) (sym u) (sym w)
+        | north_east_above s t u w ↦ joins n SouthWest (4 + c) x y (8 + d) a b _ _ _ t (table.south_west_1 n c x y hc) (omega arith) (sym u) (sym w)
+      ])
 
   from_south : (c : ℕ) → c < 4 → (g : ℕ) → g < 12 → Rule (8 + c) g
   from_south c hc = by_row (Rule (8 + c))
       (λ d hd e.
-          let m = same_far n d a b c x y hd hc pos ha hb hx hy (sym e) in
-          joins n North (8 + c) x y d a b _ _ _ (m.3, m.4) (table.north_2 n c x y hc) m.0 (sym m.1) (sym m.2))
+      let m = same_far n d a b c x y hd hc pos ha hb hx hy (sym e) in
+      joins n North (8 + c) x y d a b _ _ _ (m.3, m.4) (table.north_2 n c x y hc) m.0 (sym m.1) (sym m.2))
       (λ d hd e.
-          elim (same_lower n d a b c x y hd hc pos ha hb hx hy (sym e)) [
-            | north_west_above s t u w ↦ joins n NorthWest (8 + c) x y (4 + d) a b _ _ _ w (table.north_west_2 n c x y hc) (omega arith) u (sym t)
-            | north_east_above s t u w ↦ joins n NorthEast (8 + c) x y (4 + d) a b _ _ _ u (table.north_east_2 n c x y hc) (omega arith) (sym t) w
-          ])
+      elim (same_lower n d a b c x y hd hc pos ha hb hx hy (sym e)) [
+        | north_west_above s t u w ↦ joins n NorthWest (8 + c) x y (4 + d) a b _ _ _ w (table.north_west_2 n c x y hc) (omega arith) u (sym t)
+        | north_east_above s t u w ↦ joins n NorthEast (8 + c) x y (4 + d) a b _ _ _ u (table.north_east_2 n c x y hc) (omega arith) (sym t) w
+      ])
       (λ d hd e.
-          elim (same_south n c x y d a b hc hd pos hx hy ha hb e) [
-            | itself_south s t u ↦ stays n (8 + c) x y (8 + d) a b (omega arith) t u
-            | eastward_south s t u w ↦ joins n SouthEast (8 + c) x y (8 + d) a b _ _ _ t (table.south_east_2 n c x y hc) (omega arith) (sym u) (sym w)
-            | westward_south s t u w ↦ joins n SouthWest (8 + c) x y (8 + d) a b _ _ _ t (table.south_west_2 n c x y hc) (omega arith) (sym u) (sym w)
-            | across_south s t u w z ↦ joins n South (8 + c) x y (8 + d) a b _ _ _ (t, u) (table.south_2 n c x y hc) (omega arith) (sym w) (sym z)
-          ])
+      elim (same_south n c x y d a b hc hd pos hx hy ha hb e) [
+        | itself_south s t u ↦ stays n (8 + c) x y (8 + d) a b (omega arith) t u
+        | eastward_south s t u w ↦ joins n SouthEast (8 + c) x y (8 + d) a b _ _ _ t (table.south_east_2 n c x y hc) (omega arith) (sym u) (sym w)
+        | westward_south s t u w ↦ joins n SouthWest (8 + c) x y (8 + d) a b _ _ _ t (table.south_west_2 n c x y hc) (omega arith) (sym u) (sym w)
+        | across_south s t u w z ↦ joins n South (8 + c) x y (8 + d) a b _ _ _ (t, u) (table.south_2 n c x y hc) (omega arith) (sym w) (sym z)
+      ])
 
   pub one_corner : (f : ℕ) → f < 12 → (g : ℕ) → g < 12 → Rule f g
   one_corner = by_row (λ f. (g : ℕ) → g < 12 → Rule f g) from_north from_equator from_south

@@ -31,9 +31,9 @@ put xs ys count place y room le turned =
     let m : length (between place (count + 1) (set xs count y)) - 1 ≡ count - place = omega arith in
     let same : between place count (set xs count y) ≡ drop place (take count xs) = between_is (set xs count y) place count ∙ ap (λ (l : List ℕ). drop place l) (take-set xs count y) in
     let new : ys ≡ y ∷ between place count (set xs count y) =
-        turned ∙ ap (λ (k : ℕ). drop k (between place (count + 1) (set xs count y)) ++ take k (between place (count + 1) (set xs count y))) m ∙ ap (λ (l : List ℕ). drop (count - place) l ++ take (count - place) l) part
-        ∙ ap (λ (l : List ℕ). l ++ take (count - place) (between place count (set xs count y) ++ y ∷ [])) (drop_at (between place count (set xs count y)) (y ∷ []) (count - place) short)
-        ∙ ap (λ (l : List ℕ). y ∷ l) (take_at (between place count (set xs count y)) (y ∷ []) (count - place) short) in
+    turned ∙ ap (λ (k : ℕ). drop k (between place (count + 1) (set xs count y)) ++ take k (between place (count + 1) (set xs count y))) m ∙ ap (λ (l : List ℕ). drop (count - place) l ++ take (count - place) l) part
+    ∙ ap (λ (l : List ℕ). l ++ take (count - place) (between place count (set xs count y) ++ y ∷ [])) (drop_at (between place count (set xs count y)) (y ∷ []) (count - place) short)
+    ∙ ap (λ (l : List ℕ). y ∷ l) (take_at (between place count (set xs count y)) (y ∷ []) (count - place) short) in
     let n : length ys ≡ count + 1 - place = ap length new ∙ omega (arith, short) in
     take-put_mid place (count + 1 - place) (set xs count y) ys (count + 1) (omega arith) (omega arith)
     ∙ ap (λ (l : List ℕ). l ++ ys) (take-set-le place xs count y le)
@@ -51,24 +51,26 @@ here y q e = (0, omega arith, sym e)
 contains_insert : (xs : List ℕ) (i y q : ℕ) → Contains (insert xs i y) q ↔ (Contains xs q ⊎ (q ≡ y))
 contains_insert xs i y q =
     let P : List ℕ → Type 0 = λ l. Contains l q in
-    let whole = take-append-drop i xs in
-    (λ h.
-        elim (Contains-append_cases (take i xs) (y ∷ drop i xs) q h) [
-          | inl front ↦ inl (subst P whole (Contains-append_left (take i xs) (drop i xs) q front))
-          | inr back ↦
-              elim (Contains-append_cases (y ∷ []) (drop i xs) q back) [
-                | inl at ↦ inr (alone y q at)
-                | inr rest ↦ inl (subst P whole (Contains-append_right (take i xs) (drop i xs) q rest))
-              ]
-        ], λ h.
-        elim h [
-          | inl old ↦
-              elim (Contains-append_cases (take i xs) (drop i xs) q (subst P (sym whole) old)) [
-                | inl front ↦ Contains-append_left (take i xs) (y ∷ drop i xs) q front
-                | inr rest ↦ Contains-append_right (take i xs) (y ∷ drop i xs) q (Contains-append_right (y ∷ []) (drop i xs) q rest)
-              ]
-          | inr at ↦ Contains-append_right (take i xs) (y ∷ drop i xs) q (Contains-append_left (y ∷ []) (drop i xs) q (here y q at))
-        ])
+    let whole = take-append-drop i xs in (
+      λ h.
+          elim (Contains-append_cases (take i xs) (y ∷ drop i xs) q h) [
+            | inl front ↦ inl (subst P whole (Contains-append_left (take i xs) (drop i xs) q front))
+            | inr back ↦
+                elim (Contains-append_cases (y ∷ []) (drop i xs) q back) [
+                  | inl at ↦ inr (alone y q at)
+                  | inr rest ↦ inl (subst P whole (Contains-append_right (take i xs) (drop i xs) q rest))
+                ]
+          ],
+      λ h.
+          elim h [
+            | inl old ↦
+                elim (Contains-append_cases (take i xs) (drop i xs) q (subst P (sym whole) old)) [
+                  | inl front ↦ Contains-append_left (take i xs) (y ∷ drop i xs) q front
+                  | inr rest ↦ Contains-append_right (take i xs) (y ∷ drop i xs) q (Contains-append_right (y ∷ []) (drop i xs) q rest)
+                ]
+            | inr at ↦ Contains-append_right (take i xs) (y ∷ drop i xs) q (Contains-append_left (y ∷ []) (drop i xs) q (here y q at))
+          ],
+    )
 
 above : (xs : List ℕ) (i y d k : ℕ) → i < k → i ≤ length xs → get_or (insert xs i y) k d ≡ get_or xs (k - 1) d
 above xs i y d k past within =
@@ -95,7 +97,7 @@ strictly_above xs i y within after other up = λ k d lo hi.
     let first = after i d (omega arith) (omega arith) in
     let off = other (omega arith) in
     let same = get_or_default xs i d 0 (omega arith) in
-    let strict : y < get_or xs i d = elim (cases_eq (get_or xs i d) y) [ | inl e ↦ absurd (off (sym same ∙ e)) | inr ne ↦ omega arith ] in
+    let strict : y < get_or xs i d = elim (cases_eq (get_or xs i d) y) [ inl e ↦ absurd (off (sym same ∙ e)) | inr ne ↦ omega arith ] in
     elim (cases_eq k i) [
       | inl at ↦ rw at strict
       | inr ne ↦ let more = up i k d (omega arith) hi in omega arith
@@ -111,7 +113,7 @@ adds_insert xs i y within before after other up = record {
 pub adds_none : (xs : List ℕ) (i y : ℕ) → i < length xs → get_or xs i 0 ≡ y → Ascends xs → Adds y xs xs
 adds_none xs i y within e up = record {
   ascending = up;
-  members = λ q. (λ h. inl h, λ h. elim h [ | inl old ↦ old | inr at ↦ subst (λ (z : ℕ). Contains xs z) (e ∙ sym at) (Contains-get_or xs i 0 within) ]);
+  members = λ q. (λ h. inl h, λ h. elim h [ inl old ↦ old | inr at ↦ subst (λ (z : ℕ). Contains xs z) (e ∙ sym at) (Contains-get_or xs i 0 within) ]);
   count = omega arith;
 }
 
@@ -122,10 +124,10 @@ module _ (xs view : List ℕ) (count i y : ℕ) (long : count ≤ length xs) (is
   kept_insert new e before after other up =
       let size = length-take-le count xs long in
       let off : i < length (take count xs) → get_or (take count xs) i 0 ≡ y → ⊥ = λ lt same.
-          elim other [
-            | inl at ↦ absurd (omega arith)
-            | inr ne ↦ ne (sym (get_or-take count xs i 0 (omega arith)) ∙ same)
-          ] in
+      elim other [
+        | inl at ↦ absurd (omega arith)
+        | inr ne ↦ ne (sym (get_or-take count xs i 0 (omega arith)) ∙ same)
+      ] in
       let P : List ℕ → Type 0 = λ l. Ascends l → Adds y l new in
       subst P is (λ a. subst (λ (l : List ℕ). Adds y (take count xs) l) (sym e) (adds_insert (take count xs) i y within before after off a)) up
 

@@ -47,9 +47,12 @@ step_added k r at o old new is here adds =
     subst (λ (z : Option FaceXy). AddsStep k z old new) is
     (record {
       ascending = adds.ascending;
-      members = λ q. (λ h.
-          elim ((adds.members q).0 h) [ | inl kept ↦ inl kept | inr e ↦ inr (placed q e) ], λ h.
-          elim h [ | inl kept ↦ (adds.members q).1 (inl kept) | inr there ↦ (adds.members q).1 (inr (numbered q there)) ]);
+      members = λ q. (
+        λ h.
+            elim ((adds.members q).0 h) [ inl kept ↦ inl kept | inr e ↦ inr (placed q e) ],
+        λ h.
+            elim h [ inl kept ↦ (adds.members q).1 (inl kept) | inr there ↦ (adds.members q).1 (inr (numbered q there)) ],
+      );
       count = adds.count;
     })
 
@@ -135,8 +138,8 @@ module _ (k p f x y last : ℕ) (here : IsAt k p f x y) (size : last + 1 ≡ 2 ^
           let shares = subst (λ (n : ℕ). SharesCorner n f x y at.face at.x at.y) size reached.shares in
           touch_from k p q f x y at.face at.x at.y here there
           (λ same.
-              let place = one_place k q at.face at.x at.y f x y there (subst (λ (z : ℕ). IsAt k z f x y) same here) in
-              reached.other place.0 (place.1, place.2)) shares
+          let place = one_place k q at.face at.x at.y f x y there (subst (λ (z : ℕ). IsAt k z f x y) same here) in
+          reached.other place.0 (place.1, place.2)) shares
 
   -- a pixel that touches is where a step leads
   pub record IsStep (q : ℕ) : Type 0 where
@@ -165,7 +168,7 @@ module _ (k p f x y last : ℕ) (here : IsAt k p f x y) (size : last + 1 ≡ 2 ^
 
 -- what a list holds after a step
 held : (k : ℕ) (o : Option FaceXy) (old new : List ℕ) (q : ℕ) (T : Type 0) → AddsStep k o old new → (Contains old q → T) → (HasPlace k o q → T) → Contains new q → T
-held k o old new q T adds kept added h = elim ((adds.members q).0 h) [ | inl old_one ↦ kept old_one | inr new_one ↦ added new_one ]
+held k o old new q T adds kept added h = elim ((adds.members q).0 h) [ inl old_one ↦ kept old_one | inr new_one ↦ added new_one ]
 
 keeps : (k : ℕ) (o : Option FaceXy) (old new : List ℕ) (q : ℕ) → AddsStep k o old new → Contains old q → Contains new q
 keeps k o old new q adds h = (adds.members q).1 (inl h)

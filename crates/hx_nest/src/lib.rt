@@ -7,6 +7,8 @@ mod order;
 mod place;
 mod side;
 mod step;
+#[cfg(test)]
+mod tests;
 mod touching;
 
 pub use around::Around;

@@ -3,7 +3,6 @@ use Rattle.std.proofs.Math.Nat.{sub-zero}
 use Rattle.hx_nest.proofs.Interleaved.{interleave_below, interleaved_step, number_room}
 use Rattle.hx_nest.proofs.place.interleaved.Goals as goal
 
-
 pub overflow_mul-number : goal.overflow_mul-number
 overflow_mul-number c = omega (arith, c.loop-level.invariant.number, number_room c.args.k c.loop-level.level (c.args.x / 2 ^ c.loop-level.level) (c.args.y / 2 ^ c.loop-level.level) (omega arith) c.loop-level.invariant.within c.requires.order)
 

@@ -11,10 +11,11 @@ returns-clause-touching c =
     let ax = c.after-x_after in
     let by = c.before-y_before in
     let ay = c.after-y_after in
-    λ q.
-      (members_touch k p at.face at.x at.y last c.split-at.ensures c.last_of-last.ensures.value bx.result ax.result by.result ay.result bx.ensures.value ax.ensures.value by.ensures.value ay.ensures.value
-      c.new-around.result c.add_step.new.around c.add_step-2.new.around c.add_step-3.new.around c.add_step-4.new.around c.add_step-5.new.around c.add_step-6.new.around c.add_step-7.new.around c.add_step-8.new.around
-      c.new-around.ensures c.add_step.ensures c.add_step-2.ensures c.add_step-3.ensures c.add_step-4.ensures c.add_step-5.ensures c.add_step-6.ensures c.add_step-7.ensures c.add_step-8.ensures q
-      , touching_are_members k p at.face at.x at.y last c.split-at.ensures c.last_of-last.ensures.value bx.result ax.result by.result ay.result bx.ensures.value ax.ensures.value by.ensures.value ay.ensures.value
-      c.new-around.result c.add_step.new.around c.add_step-2.new.around c.add_step-3.new.around c.add_step-4.new.around c.add_step-5.new.around c.add_step-6.new.around c.add_step-7.new.around c.add_step-8.new.around
-      c.new-around.ensures c.add_step.ensures c.add_step-2.ensures c.add_step-3.ensures c.add_step-4.ensures c.add_step-5.ensures c.add_step-6.ensures c.add_step-7.ensures c.add_step-8.ensures q)
+    λ q. (
+      members_touch k p at.face at.x at.y last c.split-at.ensures c.last_of-last.ensures.value bx.result ax.result by.result ay.result bx.ensures.value ax.ensures.value by.ensures.value ay.ensures.value
+          c.new-around.result c.add_step.new.around c.add_step-2.new.around c.add_step-3.new.around c.add_step-4.new.around c.add_step-5.new.around c.add_step-6.new.around c.add_step-7.new.around c.add_step-8.new.around
+          c.new-around.ensures c.add_step.ensures c.add_step-2.ensures c.add_step-3.ensures c.add_step-4.ensures c.add_step-5.ensures c.add_step-6.ensures c.add_step-7.ensures c.add_step-8.ensures q,
+      touching_are_members k p at.face at.x at.y last c.split-at.ensures c.last_of-last.ensures.value bx.result ax.result by.result ay.result bx.ensures.value ax.ensures.value by.ensures.value ay.ensures.value
+          c.new-around.result c.add_step.new.around c.add_step-2.new.around c.add_step-3.new.around c.add_step-4.new.around c.add_step-5.new.around c.add_step-6.new.around c.add_step-7.new.around c.add_step-8.new.around
+          c.new-around.ensures c.add_step.ensures c.add_step-2.ensures c.add_step-3.ensures c.add_step-4.ensures c.add_step-5.ensures c.add_step-6.ensures c.add_step-7.ensures c.add_step-8.ensures q,
+    )
