@@ -1,10 +1,10 @@
 -- Which corners of two faces are one point, for each two rows of faces.
-use Rattle.std.proofs.Common.{◌≡◌, ◌∙◌, ◌+◌, ◌-◌, ◌*◌, ◌/◌, ◌%◌, ◌<◌, ◌≤◌, ◌⊎◌, ℕ, refl, sym, ap, arith, inl, inr}
+use Rattle.std.proofs.Common.{◌≡◌, ◌∙◌, ◌+◌, ◌-◌, ◌*◌, ◌<◌, ◌≤◌, ◌⊎◌, ℕ, refl, sym, arith, inl, inr}
 use Rattle.std.proofs.lemmas.Bool.{cases_lt, cases_eq}
-use Rattle.hx_base.specs.Touching.{ring, place_on, corner_point}
-use Rattle.hx_nest.proofs.Sectors.{next, round, OnePlace, one_place, from_one_place}
+use Rattle.hx_base.specs.Touching.{place_on}
+use Rattle.hx_nest.proofs.Sectors.{next, OnePlace, one_place, from_one_place}
 use Rattle.hx_nest.proofs.Table.{prev, opposite}
-use Rattle.hx_nest.proofs.Spots.{IsSpot, IsEquatorSpot, east, west, spot_north, spot_south, spot_belt_0, spot_belt_1, spot_belt_2, at_pole, ring_0, ring_1, ring_2}
+use Rattle.hx_nest.proofs.Spots.{IsSpot, east, west, spot_north, spot_south, spot_belt_0, spot_belt_1, spot_belt_2, at_pole}
 
 -- one place on ring v
 abbrev OnRing : ℕ → ℕ → ℕ → ℕ → ℕ → ℕ → ℕ → ℕ → Type 0

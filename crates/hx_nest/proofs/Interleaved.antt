@@ -1,7 +1,7 @@
 -- The bits of two coordinates in turn.
 use Rattle.std.proofs.Common.{◌≡◌, ◌∙◌, ◌+◌, ◌-◌, ◌*◌, ◌/◌, ◌%◌, ◌^◌, ◌<◌, ◌≤◌, ℕ, zero, suc, sym, ap, arith, refl}
 use Rattle.std.proofs.lemmas.Nat.{shr-shr, same_from_place, div_below, div-add-mod', mod_below}
-use Rattle.std.proofs.Math.Nat.{pow-suc, pow-le-pow_right, div-eq_of_lt, mod-eq_of_lt, mul-le-mul_left, div-mul-le_self}
+use Rattle.std.proofs.Math.Nat.{pow-suc, pow-le-pow_right, div-eq_of_lt, mod-eq_of_lt, div-mul-le_self}
 use Rattle.hx_base.proofs.Powers.{four_is, four_pos}
 use Rattle.hx_base.specs.Touching.{IsAt, interleave}
 

@@ -1,5 +1,5 @@
 -- The law on corner points: two corners are one point exactly where they are one corner, or the table joins their faces there.
-use Rattle.std.proofs.Common.{◌≡◌, ◌∙◌, ◌+◌, ◌-◌, ◌*◌, ◌/◌, ◌%◌, ◌<◌, ◌≤◌, ◌⊎◌, ℕ, refl, sym, ap, subst, arith, inl, inr, slice_index}
+use Rattle.std.proofs.Common.{◌≡◌, ◌∙◌, ◌+◌, ◌-◌, ◌*◌, ◌<◌, ◌≤◌, ℕ, refl, sym, ap, subst, arith, inl, inr, slice_index}
 use Rattle.std.proofs.lemmas.Bool.{cases_lt}
 use Rattle.hx_base.specs.Touching.{ring, place_on, corner_point}
 use Rattle.hx_nest.specs.declared.side.Side.{Side}

@@ -1,9 +1,9 @@
 -- A number put into an ascending list at its place.
-use Rattle.std.proofs.Common.{◌≡◌, ◌∙◌, ◌+◌, ◌-◌, ◌<◌, ◌≤◌, ◌⊎◌, ◌↔◌, ◌∷◌, ◌++◌, [], ℕ, List, length, get_or, set, take, drop, refl, sym, ap, arith, inl, inr, subst, zero, suc}
-use Rattle.std.specs.List.{insert, between, AllPairs, AllWithin, Contains}
+use Rattle.std.proofs.Common.{◌≡◌, ◌∙◌, ◌+◌, ◌-◌, ◌<◌, ◌≤◌, ◌⊎◌, ◌↔◌, ◌∷◌, ◌++◌, [], ℕ, List, length, get_or, set, take, drop, sym, ap, arith, inl, inr, subst, zero, suc}
+use Rattle.std.specs.List.{insert, between, AllWithin, Contains}
 use Rattle.std.specs.List.Sorted.{IsNonDecreasingBy}
-use Rattle.std.proofs.lemmas.Bool.{cases_eq, cases_lt, cases_order}
-use Rattle.std.proofs.lemmas.List.{get_or_at, take_at, drop_at, take-take, take-set, take-set-le, take-append-drop, get_or_default, length-set, get_or-set_same, get_or-take, length-take-le}
+use Rattle.std.proofs.lemmas.Bool.{cases_eq, cases_order}
+use Rattle.std.proofs.lemmas.List.{take_at, drop_at, take-take, take-set, take-set-le, take-append-drop, get_or_default, length-set, get_or-set_same, get_or-take, length-take-le}
 use Rattle.std.proofs.lemmas.List.Edits.{between_more, length-between, length-insert, get_or-insert_below, get_or-insert_at, get_or-insert_above}
 use Rattle.std.proofs.lemmas.List.Elements.{Contains-append_left, Contains-append_right, Contains-append_cases, Contains-get_or}
 use Rattle.std.proofs.lemmas.Slice.{between_is, take-put_mid}

@@ -1,5 +1,5 @@
 -- The parents of touching pixels are equal or touch, since a step halves to a step.
-use Rattle.std.proofs.Common.{◌≡◌, ◌∙◌, ◌==◌, ◌+◌, ◌-◌, ◌*◌, ◌/◌, ◌%◌, ◌^◌, ◌<◌, ◌≤◌, ◌⊎◌, ℕ, Bool, Option, Some, None, true, false, suc, refl, sym, ap, subst, arith, inl, inr, slice_index, if◌then◌else◌, nat_lt, add-one}
+use Rattle.std.proofs.Common.{◌≡◌, ◌∙◌, ◌==◌, ◌+◌, ◌-◌, ◌*◌, ◌/◌, ◌^◌, ◌⊎◌, ℕ, Bool, Option, Some, None, true, false, suc, refl, sym, ap, subst, arith, inl, inr, slice_index, if◌then◌else◌, nat_lt, add-one}
 use Rattle.std.proofs.lemmas.Bool.{cases_eq, cases_Bool}
 use Rattle.std.proofs.lemmas.Nat.{pow_pos}
 use Rattle.std.proofs.Math.Nat.{pow-suc}
@@ -12,7 +12,7 @@ use Rattle.hx_nest.specs.declared.step.Coordinate.TheVariants.{Below, Within, Ab
 use Rattle.hx_nest.specs.Sides.{faces_beyond, beyond}
 use Rattle.hx_nest.specs.Steps.{HasPlace, IsNear, across, pixel_at}
 use Rattle.hx_nest.proofs.Reached.{SharesCorner, Steps, steps}
-use Rattle.hx_nest.proofs.Touches.{TouchesAt, touch_at, same_pixel, step_touches, below_power}
+use Rattle.hx_nest.proofs.Touches.{touch_at, same_pixel, step_touches, below_power}
 
 -- a pixel's parent has half its coordinates
 parent_at : (k p f x y : ℕ) → IsAt (suc k) p f x y → IsAt k (p / 4) f (x / 2) (y / 2)

@@ -1,6 +1,6 @@
 -- Each step leads to a pixel that shares a corner, and each pixel that shares a corner is reached by a step.
-use Rattle.std.proofs.Common.{◌≡◌, ◌∙◌, ◌==◌, ◌+◌, ◌-◌, ◌*◌, ◌/◌, ◌%◌, ◌<◌, ◌≤◌, ◌⊎◌, ℕ, Option, Some, None, true, false, refl, sym, ap, subst, arith, inl, inr, slice_index, if◌then◌else◌, eq-eqb}
-use Rattle.std.proofs.lemmas.Bool.{cases_lt, ne_eqb}
+use Rattle.std.proofs.Common.{◌≡◌, ◌∙◌, ◌==◌, ◌+◌, ◌-◌, ◌<◌, ◌≤◌, ℕ, Option, Some, None, true, false, refl, sym, ap, subst, arith, inl, inr, slice_index, eq-eqb}
+use Rattle.std.proofs.lemmas.Bool.{ne_eqb}
 use Rattle.hx_base.specs.Touching.{corner_point}
 use Rattle.hx_nest.specs.declared.place.FaceXy.{FaceXy}
 use Rattle.hx_nest.specs.declared.side.Side.{Side}

@@ -1,10 +1,10 @@
 -- The point of a corner as a step of one of four sectors of its ring: a quarter of a cap's ring, or two sides on the belt.
-use Rattle.std.proofs.Common.{◌≡◌, ◌∙◌, ◌+◌, ◌-◌, ◌*◌, ◌/◌, ◌%◌, ◌<◌, ◌≤◌, ◌⊎◌, ◌||◌, ◌==◌, ℕ, refl, sym, ap, arith, inl, inr, nat_lt, nat_eq, if◌then◌else◌}
+use Rattle.std.proofs.Common.{◌≡◌, ◌∙◌, ◌+◌, ◌-◌, ◌*◌, ◌/◌, ◌%◌, ◌<◌, ◌≤◌, ◌⊎◌, ℕ, refl, arith, inl, inr}
 use Rattle.std.proofs.lemmas.Bool.{cases_lt}
 use Rattle.std.proofs.lemmas.Bool.Decides.{nat_tests}
 use Rattle.std.proofs.Math.Nat.{add-mod_right}
 use Rattle.hx_base.specs.Touching.{ring, middle, place_on}
-use Rattle.hx_nest.proofs.Sectors.{four, next, round}
+use Rattle.hx_nest.proofs.Sectors.{four, round}
 use Rattle.hx_nest.proofs.Table.{prev}
 
 -- rings by the row of faces

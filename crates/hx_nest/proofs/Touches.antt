@@ -1,17 +1,15 @@
 -- The eight steps from a pixel lead to the pixels that touch it.
-use Rattle.std.proofs.Common.{[], length, ◌≡◌, ◌≢◌, ◌∙◌, ◌==◌, ◌+◌, ◌-◌, ◌*◌, ◌^◌, ◌<◌, ◌≤◌, ◌⊎◌, ◌↔◌, ℕ, List, Option, Some, None, true, false, refl, sym, ap, subst, arith, inl, inr, if◌then◌else◌, eq-eqb}
+use Rattle.std.proofs.Common.{[], length, ◌≡◌, ◌≢◌, ◌∙◌, ◌==◌, ◌+◌, ◌-◌, ◌^◌, ◌<◌, ◌≤◌, ◌⊎◌, ℕ, List, Option, Some, None, true, false, refl, sym, ap, subst, arith, inl, inr, eq-eqb}
 use Rattle.std.specs.List.{Contains}
 use Rattle.std.proofs.lemmas.Bool.{cases_eq, ne_eqb}
-use Rattle.std.proofs.lemmas.Nat.{pow_pos, one_shl}
-use Rattle.std.proofs.Math.Nat.{pow-le-pow_right}
-use Rattle.hx_base.specs.Touching.{IsAt, HasCorner, Touch, corner_point, interleave}
+use Rattle.hx_base.specs.Touching.{IsAt, HasCorner, Touch, corner_point}
 use Rattle.hx_nest.specs.declared.place.FaceXy.{FaceXy}
 use Rattle.hx_nest.specs.declared.step.Coordinate.{Coordinate}
 use Rattle.hx_nest.specs.declared.step.Coordinate.TheVariants.{Below, Within, Above}
 use Rattle.hx_nest.specs.Lists.{Adds}
-use Rattle.hx_nest.specs.Steps.{AddsStep, HasPlace, IsNear, IsOnGrid, pixel_at, before, after}
+use Rattle.hx_nest.specs.Steps.{AddsStep, HasPlace, IsNear, pixel_at, before, after}
 use Rattle.hx_nest.proofs.Interleaved.{one_place}
-use Rattle.hx_nest.proofs.Reached.{IsOwn, IsReached, SharesCorner, Steps, leads, steps}
+use Rattle.hx_nest.proofs.Reached.{IsOwn, SharesCorner, Steps, leads, steps}
 
 -- touching, by the places of the pixels
 pub touch_from : (k p q f x y g a b : ℕ) → IsAt k p f x y → IsAt k q g a b → p ≢ q → SharesCorner (2 ^ k) f x y g a b → Touch k p q

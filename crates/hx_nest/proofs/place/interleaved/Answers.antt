@@ -1,4 +1,4 @@
-use Rattle.std.proofs.Common.{arith, ◌≡◌, ◌/◌, ◌^◌, ◌<◌}
+use Rattle.std.proofs.Common.{arith, ◌≡◌, ◌/◌, ◌^◌}
 use Rattle.std.proofs.Math.Nat.{sub-zero}
 use Rattle.hx_nest.proofs.Interleaved.{interleave_below, interleaved_step, number_room}
 use Rattle.hx_nest.proofs.place.interleaved.Goals as goal

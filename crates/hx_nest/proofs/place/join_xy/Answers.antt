@@ -1,4 +1,4 @@
-use Rattle.std.proofs.Common.{◌≡◌, ◌∙◌, ◌*◌, ◌^◌, ap, sym, arith}
+use Rattle.std.proofs.Common.{arith}
 use Rattle.hx_nest.proofs.Interleaved.{face_shifted, number_below, joined_below, joined_at}
 use Rattle.hx_nest.proofs.place.join_xy.Goals as goal
 

@@ -1,4 +1,4 @@
-use Rattle.std.proofs.Common.{arith, ◌≡◌, ◌-◌, ◌*◌, ◌^◌, ◌<◌}
+use Rattle.std.proofs.Common.{arith, ◌≡◌, ◌-◌, ◌<◌}
 use Rattle.hx_nest.proofs.Interleaved.{coordinate_room, separated_step, start}
 use Rattle.hx_nest.proofs.place.separated.Goals as goal
 

@@ -1,4 +1,4 @@
-use Rattle.std.proofs.Common.{◌≡◌, ◌∙◌, sym, arith}
+use Rattle.std.proofs.Common.{arith}
 use Rattle.hx_nest.proofs.Interleaved.{face_below, rest_below, shifted_back, whole}
 use Rattle.hx_nest.proofs.place.split.Goals as goal
 
