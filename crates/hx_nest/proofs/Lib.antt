@@ -1,10 +1,11 @@
 pub mod Interleaved
+mod Spread
 mod Sectors
 mod Table
 mod Spots
 mod Corners
-mod Law
+pub mod Law
 mod Lists
 mod Reached
-mod Touches
-mod Parents
+pub mod Touches
+pub mod Parents

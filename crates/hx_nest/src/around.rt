@@ -9,7 +9,7 @@ use std::marker::Model;
 const MOST: usize = 8;
 
 /// At most eight pixels, ascending. It is seen as the list of their numbers.
-#[derive(Drop)]
+#[derive(Debug, Drop)]
 pub struct Around {
     pixels: [u64; 8],
     count: u8,

@@ -1,7 +1,13 @@
-//! Laws on corner points and on touching.
+//! Laws on places, on corner points and on touching.
 ghost use Rattle.std.specs.Prelude.{◌≡◌, ◌↔◌, ◌⊎◌, ◌+◌, ◌/◌, ◌<◌, ◌≤◌, ℕ};
-ghost use Rattle.hx_base.specs.Touching.{corner_point, Touch};
+ghost use Rattle.hx_base.specs.Touching.{IsAt, Touch, corner_point};
 ghost use Rattle.hx_nest.specs.Sides.{AreOneCorner};
+
+/// A pixel has one place on one face.
+pub fn places_of_pixels()
+    ensures { (order pixel face x y other a b : ℕ) → IsAt order pixel face x y → IsAt order pixel other a b
+        → (face ≡ other) × (x ≡ a) × (y ≡ b) }
+{}
 
 /// Two corners of faces of n * n pixels are one point of the sphere exactly where they are the same corner, or
 /// lie on a side or at a vertex at which the table of sides joins their faces, at the places that it gives.

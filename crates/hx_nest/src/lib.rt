@@ -2,6 +2,7 @@
 #![tactic(auto)]
 
 mod around;
+mod bits;
 mod laws;
 mod order;
 mod place;
@@ -12,7 +13,7 @@ mod tests;
 mod touching;
 
 pub use around::Around;
-pub use laws::{corners_of_faces, parents_of_touching, touching_is_symmetric};
+pub use laws::{corners_of_faces, parents_of_touching, places_of_pixels, touching_is_symmetric};
 pub use order::{at_order, first_child, parent};
 pub use place::{FaceXy, join_xy, split};
 pub use touching::{neighbours, touch};

@@ -178,7 +178,7 @@ fn check_place(rt: &impl Abort, k: u8, at: FaceXy, p: u64)
 }
 
 #[test]
-fn places_of_pixels(rt: HostRuntime) {
+fn places_and_numbers(rt: HostRuntime) {
     const LAST: u32 = 536870911;
     check_place(
         &rt,
