@@ -1,0 +1,4 @@
+pub mod Kinds
+pub mod Reading
+pub mod Texts
+pub mod Values
