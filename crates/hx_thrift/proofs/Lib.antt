@@ -1,2 +1,4 @@
 pub mod Groups
 pub mod Passing
+pub mod Sound
+pub mod Zigzags

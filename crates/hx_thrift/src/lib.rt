@@ -2,9 +2,11 @@
 #![tactic(auto)]
 
 mod header;
+mod laws;
 mod reader;
 mod refusal;
 
 pub use header::{Field, ListHead};
+pub use laws::reading_is_spelling;
 pub use reader::Reader;
 pub use refusal::ThriftRefusal;
