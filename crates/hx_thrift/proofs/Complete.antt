@@ -1,5 +1,5 @@
 -- What is spelled so is read, whatever follows it.
-use Rattle.std.proofs.Common.{◌≡◌, ℕ, zero, suc, ◌+◌, ◌-◌, ◌*◌, ◌/◌, ◌%◌, ◌^◌, ◌<◌, ◌≤◌, ℤ, pos, ◌+ℤ◌, List, [], ◌∷◌, ◌++◌, length, Bool, true, false, cond, ltb, leb, eqb, ◌&&◌, Option, Some, None, Ok, Err, refl, ap, append_assoc, arith, inl, inr, ◌⊎◌, length-append}
+use Rattle.std.proofs.Common.{◌≡◌, ℕ, zero, suc, ◌+◌, ◌*◌, ◌/◌, ◌%◌, ◌^◌, ◌<◌, ◌≤◌, ℤ, pos, ◌+ℤ◌, List, [], ◌∷◌, ◌++◌, length, true, false, cond, leb, eqb, Some, None, Ok, refl, append_assoc, arith, inl, inr, length-append}
 use Rattle.std.proofs.lemmas.Bool.{lt-ltb, le-ltb, le-leb, lt-leb}
 use Rattle.std.proofs.lemmas.Bool.Decides.{nat_tests}
 use Rattle.std.proofs.lemmas.List.{take_at, drop_at}
@@ -7,9 +7,9 @@ use Rattle.std.specs.Prelude.{◌≢◌}
 use Rattle.hx_thrift.specs.declared.header.Field.{Field}
 use Rattle.hx_thrift.specs.declared.header.ListHead.{ListHead}
 use Rattle.hx_thrift.specs.Texts.{Text, Read, ◌>>=◌, read_as}
-use Rattle.hx_thrift.specs.Kinds.{IsKind, is_kind, is_id, part_kind, max_size, zigzag, unzigzag, max_zigzag}
-use Rattle.hx_thrift.specs.Values.{Leaf, number, binary, fixed, Entry, Node, leaf, elements, pairs, entries, Value}
-use Rattle.hx_thrift.specs.Reading.{byte_at, bytes_at, groups_at, varint_at, number_at, int_at, binary_at, own_id_at, id_at, field_at, size_at, list_at, elements_at, entries_behind, entries_at, struct_at, sequence_at, pair_at, pairs_at, map_at, leaf_at, container_at, value_at}
+use Rattle.hx_thrift.specs.Kinds.{IsKind, is_kind, is_id, part_kind, max_size, zigzag, max_zigzag}
+use Rattle.hx_thrift.specs.Values.{Leaf, number, binary, fixed, Entry, leaf, elements, pairs, entries}
+use Rattle.hx_thrift.specs.Reading.{bytes_at, groups_at, varint_at, number_at, int_at, binary_at, own_id_at, id_at, field_at, size_at, list_at, elements_at, entries_behind, entries_at, struct_at, sequence_at, pair_at, pairs_at, map_at, leaf_at, container_at, value_at}
 use Rattle.hx_thrift.specs.Spelling.{AreGroups, IsVarint, IsNumber, IsInt, IsBinary, IsLeaf, AreAll, IsHeader, AreEntries, IsListHead, IsSequence, IsPair, ArePairs, IsMap, Spells}
 use Rattle.hx_thrift.proofs.Zigzags.{unzigzag-zigzag}
 

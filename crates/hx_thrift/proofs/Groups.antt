@@ -5,7 +5,7 @@ use Rattle.std.proofs.lemmas.Nat.{mul-add-lt}
 use Rattle.std.proofs.Math.Nat.{pow-le-pow_right, pow-suc}
 use Rattle.hx_thrift.specs.declared.refusal.ThriftRefusal.{ThriftRefusal}
 use Rattle.hx_thrift.specs.declared.refusal.ThriftRefusal.TheVariants.{Overlong}
-use Rattle.hx_thrift.specs.Texts.{Text, Read, ◌>>=◌, read_as}
+use Rattle.hx_thrift.specs.Texts.{Text, Read, read_as}
 use Rattle.hx_thrift.specs.Reading.{byte_at, groups_at, varint_at}
 
 -- a number whose lower groups were read, with the weight of the next one

@@ -1,4 +1,5 @@
 pub mod Complete
+pub mod Ends
 pub mod Groups
 pub mod Passing
 pub mod Sound

@@ -6,7 +6,7 @@ use Rattle.hx_thrift.specs.declared.header.Field.{Field}
 use Rattle.hx_thrift.specs.declared.header.ListHead.{ListHead}
 use Rattle.hx_thrift.specs.declared.refusal.ThriftRefusal.{ThriftRefusal}
 use Rattle.hx_thrift.specs.declared.refusal.ThriftRefusal.TheVariants.{Short, TooDeep}
-use Rattle.hx_thrift.specs.Texts.{Text, Read, ◌>>=◌, read_as, rest_of}
+use Rattle.hx_thrift.specs.Texts.{Text, Read, read_as, rest_of}
 use Rattle.hx_thrift.specs.Kinds.{part_kind}
 use Rattle.hx_thrift.specs.Values.{Entry, leaf, elements, pairs, entries}
 use Rattle.hx_thrift.specs.Reading.{field_at, list_at, elements_at, entries_at, struct_at, sequence_at, pair_at, map_at, leaf_at, container_at, value_at}

@@ -10,3 +10,6 @@ pub use header::{Field, ListHead};
 pub use laws::reading_is_spelling;
 pub use reader::Reader;
 pub use refusal::ThriftRefusal;
+
+#[cfg(test)]
+mod tests;

@@ -11,6 +11,9 @@ use std::marker::Model;
 // The greatest length of a binary, and size of a list, set or map.
 const MAX_SIZE: u64 = 0x7fff_ffff;
 
+// The greatest tenth group of a varint: nine groups have 63 bits.
+const LAST_GROUP: u8 = 1;
+
 /// A reader over the bytes from a place on, for instance of a file.
 ///
 /// A call that refuses leaves it where it stood. No call takes memory.
@@ -64,8 +67,8 @@ impl<'a> Reader<'a> {
         }
     }
 
-    // The next byte, of an item that begins at `start`.
-    fn byte(&self, start: u64) -> Result<(u8, Reader<'a>), ThriftRefusal>
+    // The next byte, of an item that begins at `start`, and the reader behind it.
+    fn peek_byte(&self, start: u64) -> Result<(u8, Reader<'a>), ThriftRefusal>
         ensures { Answers (λ x. (x.0, x.1)) result (byte_at start self.now) }
     {
         match self.ahead {
@@ -80,8 +83,8 @@ impl<'a> Reader<'a> {
         }
     }
 
-    // The next `len` bytes, of an item that begins at `start`.
-    fn bytes(&self, start: u64, len: usize) -> Result<(&'a [u8], Reader<'a>), ThriftRefusal>
+    // The next `len` bytes, of an item that begins at `start`, and the reader behind them.
+    fn peek_bytes(&self, start: u64, len: usize) -> Result<(&'a [u8], Reader<'a>), ThriftRefusal>
         ensures { Answers (λ x. (x.0.now, x.1)) result (bytes_at start len self.now) }
     {
         if self.ahead.len() < len {
@@ -98,14 +101,14 @@ impl<'a> Reader<'a> {
     }
 
     // At most ten groups of seven bits, the least first, that make a number below 2^64.
-    fn varint(&self) -> Result<(u64, Reader<'a>), ThriftRefusal>
+    fn peek_varint(&self) -> Result<(u64, Reader<'a>), ThriftRefusal>
         ensures { Answers (λ x. (x.0, x.1)) result (varint_at self.now) }
     {
         let mut number: u64 = 0;
         let mut scale: u64 = 1;
         let mut ahead = self.copied();
         for _ in 0..9u8 {
-            let (group, rest) = ahead.byte(self.at)?;
+            let (group, rest) = ahead.peek_byte(self.at)?;
             number += (group % 128) as u64 * scale;
             if group < 128 {
                 return Ok((number, rest));
@@ -113,9 +116,8 @@ impl<'a> Reader<'a> {
             scale *= 128;
             ahead = rest;
         }
-        // Sixty-three bits are read, so the last group has one.
-        let (group, rest) = ahead.byte(self.at)?;
-        if group <= 1 {
+        let (group, rest) = ahead.peek_byte(self.at)?;
+        if group <= LAST_GROUP {
             Ok((number + group as u64 * scale, rest))
         } else {
             Err(ThriftRefusal::Overlong { at: self.at })
@@ -124,11 +126,11 @@ impl<'a> Reader<'a> {
 
     // A varint up to `most`.
     #[tactic(auto, unfolding(crate::specs::Reading::number_at))]
-    fn number(&self, most: u64) -> Result<(u64, Reader<'a>), ThriftRefusal>
+    fn peek_number(&self, most: u64) -> Result<(u64, Reader<'a>), ThriftRefusal>
         ensures range { IfOk result (λ x. x.0 ≤ most) }
         ensures value { Answers (λ x. (x.0, x.1)) result (number_at most self.now) }
     {
-        let (number, rest) = self.varint()?;
+        let (number, rest) = self.peek_varint()?;
         if number <= most {
             Ok((number, rest))
         } else {
@@ -138,11 +140,11 @@ impl<'a> Reader<'a> {
 
     // The id that stands behind a header.
     #[tactic(auto, unfolding(crate::specs::Reading::own_id_at))]
-    fn own_id(&self) -> Result<(i16, Reader<'a>), ThriftRefusal>
+    fn peek_own_id(&self) -> Result<(i16, Reader<'a>), ThriftRefusal>
         ensures range { IfOk result (λ x. pos 0 ≤ℤ x.0) }
         ensures value { Answers (λ x. (x.0, x.1)) result (own_id_at self.now) }
     {
-        let (number, rest) = self.varint()?;
+        let (number, rest) = self.peek_varint()?;
         let id = signed(number);
         if is_id(id) {
             Ok((id as i16, rest))
@@ -153,12 +155,12 @@ impl<'a> Reader<'a> {
 
     // The id of the header at `start`, by its step from the last one or, where that is 0, of its own.
     #[tactic(auto, unfolding(crate::specs::Reading::id_at))]
-    fn id(&self, start: u64, last: i16, step: u8) -> Result<(i16, Reader<'a>), ThriftRefusal>
+    fn peek_id(&self, start: u64, last: i16, step: u8) -> Result<(i16, Reader<'a>), ThriftRefusal>
         ensures range { IfOk result (λ x. pos 0 ≤ℤ x.0) }
         ensures value { Answers (λ x. (x.0, x.1)) result (id_at start last step self.now) }
     {
         if step == 0 {
-            return self.own_id();
+            return self.peek_own_id();
         }
         let id = i64::from(last) + i64::from(step);
         if is_id(id) {
@@ -168,32 +170,41 @@ impl<'a> Reader<'a> {
         }
     }
 
-    // The size that a list's header gives in its upper half, or that follows where that is 15.
-    fn size(&self, short: u8) -> Result<(u32, Reader<'a>), ThriftRefusal>
+    // The size that a list's header gives, or that follows where the header says 15.
+    fn peek_size(&self, short: u8) -> Result<(u32, Reader<'a>), ThriftRefusal>
         requires { short < 16 }
         ensures range { IfOk result (λ x. x.0 < 2 ^ 31) }
         ensures value { Answers (λ x. (x.0, x.1)) result (size_at short self.now) }
     {
         if short == 15 {
-            let (size, rest) = self.number(MAX_SIZE)?;
+            let (size, rest) = self.peek_number(MAX_SIZE)?;
             Ok((size as u32, rest))
         } else {
             Ok((u32::from(short), self.copied()))
         }
     }
 
+    /// Reads a varint: at most ten groups of seven bits, the least first, that make a number below 2^64.
+    pub fn varint(&mut self) -> Result<u64, ThriftRefusal>
+        ensures { Moves (λ number. number) self.old self.new result (varint_at self.old) }
+    {
+        let (number, rest) = self.peek_varint()?;
+        *self = rest;
+        Ok(number)
+    }
+
     /// Reads the header of the field behind the one with the id `last`, which is 0 at the start of a struct.
     /// The answer is `None` exactly at a stop.
     ///
-    /// Overlong names the header's byte where a step leads to no id, and the first byte of the varint where an id of
-    /// its own is none.
+    /// An id out of 0 to 32767 is Overlong: named by the header where it is a step from the last one, and by its own
+    /// first byte where it follows.
     #[tactic(auto, unfolding(crate::specs::Reading::field_at))]
     pub fn field(&mut self, last: i16) -> Result<Option<Field>, ThriftRefusal>
         ensures id { IfOk result (λ found. IfSome found (λ field. pos 0 ≤ℤ field.id)) }
         ensures kind { IfOk result (λ found. IfSome found (λ field. IsKind field.kind)) }
         ensures value { Moves (λ found. found) self.old self.new result (field_at last self.old) }
     {
-        let (first, rest) = self.byte(self.at)?;
+        let (first, rest) = self.peek_byte(self.at)?;
         if first == 0 {
             *self = rest;
             return Ok(None);
@@ -202,7 +213,7 @@ impl<'a> Reader<'a> {
         if !is_kind(kind) {
             return Err(ThriftRefusal::BadType { at: self.at });
         }
-        let (id, rest) = rest.id(self.at, last, first / 16)?;
+        let (id, rest) = rest.peek_id(self.at, last, first / 16)?;
         *self = rest;
         Ok(Some(Field { id, kind }))
     }
@@ -215,7 +226,7 @@ impl<'a> Reader<'a> {
         ensures i32 { kind ≡ 5 → IfOk result (FitsSigned w32) }
         ensures value { Moves (λ number. number) self.old self.new result (int_at kind self.old) }
     {
-        let (number, rest) = self.number(max_zigzag(kind))?;
+        let (number, rest) = self.peek_number(max_zigzag(kind))?;
         *self = rest;
         Ok(signed(number))
     }
@@ -226,8 +237,8 @@ impl<'a> Reader<'a> {
         ensures length { IfOk result (λ bytes. length bytes.now < 2 ^ 31) }
         ensures value { Moves (λ bytes. bytes.now) self.old self.new result (binary_at self.old) }
     {
-        let (len, rest) = self.number(MAX_SIZE)?;
-        let (bytes, rest) = rest.bytes(self.at, len as usize)?;
+        let (len, rest) = self.peek_number(MAX_SIZE)?;
+        let (bytes, rest) = rest.peek_bytes(self.at, len as usize)?;
         *self = rest;
         Ok(bytes)
     }
@@ -239,12 +250,12 @@ impl<'a> Reader<'a> {
         ensures size { IfOk result (λ head. head.size < 2 ^ 31) }
         ensures value { Moves (λ head. head) self.old self.new result (list_at self.old) }
     {
-        let (first, rest) = self.byte(self.at)?;
+        let (first, rest) = self.peek_byte(self.at)?;
         let kind = first % 16;
         if !is_kind(kind) {
             return Err(ThriftRefusal::BadType { at: self.at });
         }
-        let (size, rest) = rest.size(first / 16)?;
+        let (size, rest) = rest.peek_size(first / 16)?;
         *self = rest;
         Ok(ListHead { kind, size })
     }
@@ -288,11 +299,11 @@ impl<'a> Reader<'a> {
         let mut ahead = self.copied();
         match kind {
             0..=2 => {}
-            3 => ahead = self.bytes(self.at, 1)?.1,
+            3 => ahead = self.peek_bytes(self.at, 1)?.1,
             4..=6 => {
                 ahead.int(kind)?;
             }
-            7 => ahead = self.bytes(self.at, 8)?.1,
+            7 => ahead = self.peek_bytes(self.at, 8)?.1,
             _ => {
                 ahead.binary()?;
             }
@@ -328,12 +339,7 @@ impl<'a> Reader<'a> {
     }
 
     #[cycle(after_value)]
-    fn after_elements(
-        &self,
-        kind: u8,
-        size: u32,
-        levels: u32,
-    ) -> Result<Reader<'a>, ThriftRefusal>
+    fn after_elements(&self, kind: u8, size: u32, levels: u32) -> Result<Reader<'a>, ThriftRefusal>
         ensures { Answers (λ reader. reader) result (rest_of (elements_at (value_at levels kind) size self.now)) }
     {
         let mut ahead = self.copied();
@@ -348,7 +354,7 @@ impl<'a> Reader<'a> {
     fn after_map(&self, levels: u32) -> Result<Reader<'a>, ThriftRefusal>
         ensures { Answers (λ reader. reader) result (rest_of (map_at (value_at levels) self.now)) }
     {
-        let (size, ahead) = self.number(MAX_SIZE)?;
+        let (size, ahead) = self.peek_number(MAX_SIZE)?;
         if size == 0 {
             Ok(ahead)
         } else {
@@ -361,7 +367,7 @@ impl<'a> Reader<'a> {
     fn after_kinds(&self, size: u32, levels: u32) -> Result<Reader<'a>, ThriftRefusal>
         ensures { Answers (λ reader. reader) result (rest_of (pairs_at (value_at levels) size self.now)) }
     {
-        let (kinds, ahead) = self.byte(self.at)?;
+        let (kinds, ahead) = self.peek_byte(self.at)?;
         let key = kinds / 16;
         let value = kinds % 16;
         if is_kind(key) && is_kind(value) {

@@ -1,10 +1,10 @@
-use Rattle.std.proofs.Common.{◌≡◌, ℕ, ◌+◌, List, ◌++◌, length, Option, None, Ok, Err, refl, sym, ap, ◌∙◌, append_assoc}
+use Rattle.std.proofs.Common.{◌≡◌, ℕ, List, ◌++◌, Option, None, Ok, Err, refl, sym, ap, ◌∙◌, append_assoc}
 use Rattle.hx_thrift.specs.declared.refusal.ThriftRefusal.{ThriftRefusal}
 use Rattle.hx_thrift.specs.Texts.{Text, Read}
 use Rattle.hx_thrift.specs.Kinds.{IsKind}
 use Rattle.hx_thrift.specs.Values.{Value}
 use Rattle.hx_thrift.specs.Reading.{value_at}
-use Rattle.hx_thrift.specs.Spelling.{Begins, refusal_of, thrift_fault}
+use Rattle.hx_thrift.specs.Spelling.{Begins, refusal_of}
 use Rattle.hx_thrift.proofs.Sound.{sound_value}
 use Rattle.hx_thrift.proofs.Complete.{text_at, value_read}
 use Rattle.hx_thrift.proofs.laws.reading_is_spelling.Goals as goal

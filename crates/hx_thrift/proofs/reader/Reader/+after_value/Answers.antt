@@ -1,12 +1,12 @@
-use Rattle.std.proofs.Common.{rules, ◌≡◌, ◌+◌, ◌-◌, Ok, Err, refl, sym, ap, subst, ◌∙◌, arith, length}
+use Rattle.std.proofs.Common.{rules, ◌+◌, ◌-◌, Err, refl, sym, ap, ◌∙◌, arith, length}
 use Rattle.std.proofs.lemmas.Result.{err_from_is_err_and}
 use Rattle.std.proofs.Math.Nat.{sub-zero}
 use Rattle.std.proofs.lemmas.Int.{to_z-of_z}
 use Rattle.std.specs.Int.{w16, cast_signed, cast_unsigned}
 use Rattle.std.specs.Int.RustNames.{FitsSigned}
-use Rattle.hx_thrift.specs.declared.refusal.ThriftRefusal.TheVariants.{Short, TooDeep}
+use Rattle.hx_thrift.specs.declared.refusal.ThriftRefusal.TheVariants.{Short}
 use Rattle.hx_thrift.specs.Texts.{Text, rest_of}
-use Rattle.hx_thrift.specs.Reading.{value_at, struct_at, elements_at, pair_at, list_at}
+use Rattle.hx_thrift.specs.Reading.{value_at, struct_at, elements_at, pair_at}
 use Rattle.hx_thrift.proofs.Passing.{next_element, refused_element, all_elements, behind_list_head, no_list_head, next_entry, refused_value, refused_header, at_stop, no_stop, behind_key, refused_key, of_leaf, too_deep, of_struct, of_map, of_sequence}
 use Rattle.hx_thrift.proofs.reader.Reader.+after_value.Goals as goal
 

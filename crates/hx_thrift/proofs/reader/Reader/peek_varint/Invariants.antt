@@ -1,7 +1,7 @@
 use Rattle.std.proofs.Common.{◌≡◌, ◌-◌, ◌^◌, ◌<◌}
 use Rattle.hx_thrift.specs.Reading.{groups_at}
 use Rattle.hx_thrift.proofs.Groups.{above}
-use Rattle.hx_thrift.proofs.reader.Reader.varint.Given as goal
+use Rattle.hx_thrift.proofs.reader.Reader.peek_varint.Given as goal
 
 abbrev pub invariant-loop : goal.invariant-loop
 invariant-loop l = record {

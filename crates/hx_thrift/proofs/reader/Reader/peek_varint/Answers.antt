@@ -2,7 +2,7 @@ use Rattle.std.proofs.Common.{rules, ap, arith}
 use Rattle.std.proofs.lemmas.Result.{err_from_is_err_and}
 use Rattle.hx_thrift.specs.Texts.{Text}
 use Rattle.hx_thrift.proofs.Groups.{refused, ended, goes_on, last_fits, last_great, sum_fits, next_below, weight_fits, next_weight}
-use Rattle.hx_thrift.proofs.reader.Reader.varint.Goals as goal
+use Rattle.hx_thrift.proofs.reader.Reader.peek_varint.Goals as goal
 
 pub returns-in_err-group : goal.returns-in_err-group
 returns-in_err-group c =
@@ -45,12 +45,12 @@ returns-in_err-group-2 c =
     let given = err_from_is_err_and c.from_residual-in_err-group-2.result c.from_residual-in_err-group-2.ensures.1 in
     rw (given.1, given.2) (refused c.loop.counter c.loop.number c.loop.scale c.self.inside.at c.args.self.now c.loop.ahead c.in_err-group-2.field-0.0 place (omega arith) c.in_err-group-2.ensures c.loop.invariant.so_far)
 
-pub returns-then-group-le1 : goal.returns-then-group-le1
-returns-then-group-le1 c =
+pub returns-then-group-le-LAST_GROUP : goal.returns-then-group-le-LAST_GROUP
+returns-then-group-le-LAST_GROUP c =
     let place = ap (λ (text : Text). text.at) c.self.view_is in
-    last_fits c.loop.counter c.loop.number c.loop.scale c.self.inside.at c.in_ok-group-2.group c.args.self.now c.loop.ahead c.in_ok-group-2.rest place (omega arith) c.loop.invariant.weight c.loop.invariant.below c.in_ok-group-2.ensures c.if-group-le1.true c.loop.invariant.so_far
+    last_fits c.loop.counter c.loop.number c.loop.scale c.self.inside.at c.in_ok-group-2.group c.args.self.now c.loop.ahead c.in_ok-group-2.rest place (omega arith) c.loop.invariant.weight c.loop.invariant.below c.in_ok-group-2.ensures c.if-group-le-LAST_GROUP.true c.loop.invariant.so_far
 
-pub returns-else-group-le1 : goal.returns-else-group-le1
-returns-else-group-le1 c =
+pub returns-else-group-le-LAST_GROUP : goal.returns-else-group-le-LAST_GROUP
+returns-else-group-le-LAST_GROUP c =
     let place = ap (λ (text : Text). text.at) c.self.view_is in
-    last_great c.loop.counter c.loop.number c.loop.scale c.self.inside.at c.in_ok-group-2.group c.args.self.now c.loop.ahead c.in_ok-group-2.rest place (omega arith) c.loop.invariant.weight c.in_ok-group-2.ensures c.if-group-le1.false c.loop.invariant.so_far
+    last_great c.loop.counter c.loop.number c.loop.scale c.self.inside.at c.in_ok-group-2.group c.args.self.now c.loop.ahead c.in_ok-group-2.rest place (omega arith) c.loop.invariant.weight c.in_ok-group-2.ensures c.if-group-le-LAST_GROUP.false c.loop.invariant.so_far
