@@ -1,4 +1,4 @@
--- The kinds of Thrift's compact protocol: 1 true, 2 false, 3 i8, 4 i16, 5 i32, 6 i64, 7 double, 8 binary, 9 list, 10 set, 11 map, 12 struct.
+-- The kinds of value in Apache Thrift's compact protocol: 1 true, 2 false, 3 i8, 4 i16, 5 i32, 6 i64, 7 double, 8 binary, 9 list, 10 set, 11 map, 12 struct.
 use Rattle.std.specs.Prelude.{ℕ, ℤ, pos, negsuc, ◌+◌, ◌-◌, ◌*◌, ◌/◌, ◌%◌, ◌^◌, ◌≤◌, Bool, ◌&&◌, ◌==◌, nat_le, int_le, if◌then◌else◌}
 
 pub record IsKind (kind : ℕ) : Type 0 where
@@ -16,6 +16,7 @@ part_kind kind = if nat_le kind 2 then 3 else kind
 abbrev pub max_size : ℕ
 max_size = 2 ^ 31 - 1
 
+-- an id of a field
 abbrev pub is_id : ℤ → Bool
 is_id id = int_le (pos 0) id && int_le id (pos 32767)
 
@@ -24,6 +25,7 @@ abbrev pub zigzag : ℤ → ℕ
 zigzag (pos n) = 2 * n
 zigzag (negsuc n) = 2 * n + 1
 
+-- the signed number of a zigzag number
 abbrev pub unzigzag : ℕ → ℤ
 unzigzag n = if n % 2 == 0 then pos (n / 2) else negsuc (n / 2)
 

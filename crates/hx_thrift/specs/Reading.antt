@@ -1,4 +1,5 @@
--- Reading Thrift's compact protocol: what stands at the front of a text, or the first refusal, named by the place of the item's first byte.
+-- Reading Apache Thrift's compact protocol: what stands at the front of a text, or the first refusal, with the place of the first byte of the item that it names.
+-- A size, length, id or number is named by its own first byte, a binary that is cut short by its length, and a container by the first byte of its body.
 use Rattle.std.specs.Prelude.{ℕ, zero, suc, ◌+◌, ◌*◌, ◌/◌, ◌%◌, ◌^◌, ℤ, pos, ◌+ℤ◌, List, [], ◌∷◌, length, take, drop, ◌&&◌, Option, Some, None, Ok, Err, nat_lt, nat_le, ◌==◌, if◌then◌else◌}
 use Rattle.hx_thrift.specs.declared.header.Field.{Field}
 use Rattle.hx_thrift.specs.declared.header.ListHead.{ListHead}
@@ -17,7 +18,8 @@ byte_at start text = elim text.bytes [
 -- so many bytes of the item that begins at start
 abbrev pub bytes_at : (start len : ℕ) → Text → Read (List ℕ)
 bytes_at start len text =
-    if nat_le len (length text.bytes) then Ok (take len text.bytes, record { at = text.at + len; bytes = drop len text.bytes })
+    if nat_le len (length text.bytes)
+    then Ok (take len text.bytes, record { at = text.at + len; bytes = drop len text.bytes })
     else Err (Short start)
 
 -- groups of seven bits, at most so many, the least first: a byte below 128 is the last one
@@ -67,7 +69,8 @@ unfoldable pub field_at : ℤ → Text → Read (Option Field)
 field_at last text = do
   first ← byte_at text.at text
   if first.0 == 0 then Ok (None, first.1) else
-      if is_kind (first.0 % 16) then read_as (λ id. Some (record { id = id; kind = first.0 % 16 })) (id_at text.at last (first.0 / 16) first.1)
+      if is_kind (first.0 % 16)
+      then read_as (λ id. Some (record { id = id; kind = first.0 % 16 })) (id_at text.at last (first.0 / 16) first.1)
       else Err (BadType text.at)
 
 -- the size of a list or set, where 15 says that it follows
@@ -78,7 +81,8 @@ size_at short text = if short == 15 then number_at max_size text else Ok (short,
 unfoldable pub list_at : Text → Read ListHead
 list_at text = do
   first ← byte_at text.at text
-  if is_kind (first.0 % 16) then read_as (λ size. record { kind = first.0 % 16; size = size }) (size_at (first.0 / 16) first.1)
+  if is_kind (first.0 % 16)
+      then read_as (λ size. record { kind = first.0 % 16; size = size }) (size_at (first.0 / 16) first.1)
       else Err (BadType text.at)
 
 -- so many values, one after another
@@ -120,7 +124,8 @@ pair_at read key value text = do
 unfoldable pub pairs_at : {A : Type 0} → (ℕ → Text → Read A) → ℕ → Text → Read (List (A × A))
 pairs_at read size text = do
   kinds ← byte_at text.at text
-  if is_kind (kinds.0 / 16) && is_kind (kinds.0 % 16) then elements_at (pair_at read (kinds.0 / 16) (kinds.0 % 16)) size kinds.1
+  if is_kind (kinds.0 / 16) && is_kind (kinds.0 % 16)
+      then elements_at (pair_at read (kinds.0 / 16) (kinds.0 % 16)) size kinds.1
       else Err (BadType text.at)
 
 -- a map: its size, and its pairs where there are any
@@ -145,7 +150,7 @@ container_at read kind text =
     else if kind == 11 then read_as pairs (map_at read text)
     else read_as (λ x. elements x.0 x.1) (sequence_at read text)
 
--- A value of a kind, as it stands in a field, with at most so many containers inside each other. One too many is refused before any of it is read.
+-- A value of a kind, as it stands in a field, with at most so many containers inside each other. One too many is refused before anything of it is read.
 unfoldable pub value_at : (levels : ℕ) → ℕ → Text → Read (Value levels)
 value_at zero kind text = if nat_lt kind 9 then read_as leaf (leaf_at kind text) else Err (TooDeep text.at)
 value_at (suc levels) kind text = if nat_lt kind 9 then read_as leaf (leaf_at kind text) else container_at (value_at levels) kind text

@@ -1,7 +1,7 @@
--- Values of Thrift's compact protocol, as trees.
+-- Values of Apache Thrift's compact protocol, as trees.
 use Rattle.std.specs.Prelude.{ℕ, zero, suc, ℤ, List}
 
--- a value without parts: a number (i16, i32, i64), a binary, or bytes of a fixed size (a byte, a double; a flag that is a field has none)
+-- A value without parts: a number (i16, i32, i64), a binary, or bytes of a fixed size (one for an i8, eight for a double, none for a flag that is a field).
 pub data Leaf : Type 0 where
   number : ℤ → Leaf
   binary : List ℕ → Leaf

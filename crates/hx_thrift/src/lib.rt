@@ -1,4 +1,7 @@
-//! Thrift's compact protocol, read from a slice of bytes without taking memory.
+//! Apache Thrift's compact protocol, read from a slice of bytes without taking memory.
+//!
+//! `Reader` reads items one by one and passes over values; each call gives exactly what the definitions in `specs/`
+//! read, or their first refusal with its place.
 #![tactic(auto)]
 
 mod header;

@@ -1,8 +1,11 @@
-ghost use Rattle.std.specs.Prelude.{◌≡◌, ◌+◌, ◌-◌, ◌*◌, ◌<◌, ◌≤◌, ◌^◌, ◌<ℤ◌, ◌≤ℤ◌, ◌+ℤ◌, pos, length, IfOk, IfSome, IsTrue, FitsSigned, ◌↔◌};
+ghost use Rattle.std.specs.Prelude.{◌≡◌, ◌↔◌, ◌+◌, ◌-◌, ◌<◌, ◌≤◌, ◌^◌, pos, ◌≤ℤ◌};
+ghost use Rattle.std.specs.Prelude.{length, IfOk, IfSome, IsTrue, FitsSigned};
 ghost use Rattle.std.specs.Int.{w16, w32};
 ghost use Rattle.hx_thrift.specs.Texts.{Text, Answers, Moves, Passes, rest_of};
 ghost use Rattle.hx_thrift.specs.Kinds.{IsKind, is_kind, part_kind, is_id, unzigzag, max_zigzag};
-ghost use Rattle.hx_thrift.specs.Reading.{byte_at, bytes_at, varint_at, number_at, int_at, binary_at, own_id_at, id_at, field_at, size_at, list_at, elements_at, struct_at, sequence_at, pair_at, pairs_at, map_at, leaf_at, value_at};
+ghost use Rattle.hx_thrift.specs.Reading.{byte_at, bytes_at, varint_at, number_at, int_at, binary_at};
+ghost use Rattle.hx_thrift.specs.Reading.{own_id_at, id_at, field_at, size_at, list_at, elements_at};
+ghost use Rattle.hx_thrift.specs.Reading.{struct_at, sequence_at, pair_at, pairs_at, map_at, leaf_at, value_at};
 
 use crate::header::{Field, ListHead};
 use crate::refusal::ThriftRefusal;
@@ -57,8 +60,8 @@ impl<'a> Reader<'a> {
         self.ahead.len()
     }
 
-    // The same reader once more.
-    fn copied(&self) -> Reader<'a>
+    /// Another reader that stands at the same place. Reading from one doesn't move the other.
+    pub fn fork(&self) -> Reader<'a>
         ensures { result ≡ self.now }
     {
         Reader {
@@ -100,13 +103,14 @@ impl<'a> Reader<'a> {
         ))
     }
 
-    // At most ten groups of seven bits, the least first, that make a number below 2^64.
+    // At most ten groups of seven bits, the least first, that make a number below 2^64, and the reader behind them.
+    // The like for other items follow.
     fn peek_varint(&self) -> Result<(u64, Reader<'a>), ThriftRefusal>
         ensures { Answers (λ x. (x.0, x.1)) result (varint_at self.now) }
     {
         let mut number: u64 = 0;
         let mut scale: u64 = 1;
-        let mut ahead = self.copied();
+        let mut ahead = self.fork();
         for _ in 0..9u8 {
             let (group, rest) = ahead.peek_byte(self.at)?;
             number += (group % 128) as u64 * scale;
@@ -164,7 +168,7 @@ impl<'a> Reader<'a> {
         }
         let id = i64::from(last) + i64::from(step);
         if is_id(id) {
-            Ok((id as i16, self.copied()))
+            Ok((id as i16, self.fork()))
         } else {
             Err(ThriftRefusal::Overlong { at: start })
         }
@@ -180,7 +184,7 @@ impl<'a> Reader<'a> {
             let (size, rest) = self.peek_number(MAX_SIZE)?;
             Ok((size as u32, rest))
         } else {
-            Ok((u32::from(short), self.copied()))
+            Ok((u32::from(short), self.fork()))
         }
     }
 
@@ -260,10 +264,10 @@ impl<'a> Reader<'a> {
         Ok(ListHead { kind, size })
     }
 
-    /// Passes over a value of the kind, as it stands in a field inside `depth` containers. It takes time linear in the
-    /// bytes that it passes over; a flag has none.
+    /// Passes over a value of the kind, as it stands in a field inside `depth` containers, in time linear in its bytes.
+    /// A flag has none.
     ///
-    /// TooDeep comes before anything of the container is read.
+    /// A container inside 32 containers is TooDeep before anything of it is read.
     pub fn skip(&mut self, kind: u8, depth: u32) -> Result<(), ThriftRefusal>
         requires kind { IsKind kind }
         requires depth { depth ≤ 32 }
@@ -296,7 +300,7 @@ impl<'a> Reader<'a> {
         requires { kind < 9 }
         ensures { Answers (λ reader. reader) result (rest_of (leaf_at kind self.now)) }
     {
-        let mut ahead = self.copied();
+        let mut ahead = self.fork();
         match kind {
             0..=2 => {}
             3 => ahead = self.peek_bytes(self.at, 1)?.1,
@@ -315,7 +319,7 @@ impl<'a> Reader<'a> {
     fn after_struct(&self, levels: u32) -> Result<Reader<'a>, ThriftRefusal>
         ensures { Answers (λ reader. reader) result (rest_of (struct_at (value_at levels) self.now)) }
     {
-        let mut ahead = self.copied();
+        let mut ahead = self.fork();
         let mut last = 0;
         for _ in 0..self.ahead.len() {
             match ahead.field(last)? {
@@ -333,16 +337,17 @@ impl<'a> Reader<'a> {
     fn after_sequence(&self, levels: u32) -> Result<Reader<'a>, ThriftRefusal>
         ensures { Answers (λ reader. reader) result (rest_of (sequence_at (value_at levels) self.now)) }
     {
-        let mut ahead = self.copied();
+        let mut ahead = self.fork();
         let head = ahead.list()?;
         ahead.after_elements(part_kind(head.kind), head.size, levels)
     }
 
     #[cycle(after_value)]
     fn after_elements(&self, kind: u8, size: u32, levels: u32) -> Result<Reader<'a>, ThriftRefusal>
-        ensures { Answers (λ reader. reader) result (rest_of (elements_at (value_at levels kind) size self.now)) }
+        ensures { Answers (λ reader. reader) result
+            (rest_of (elements_at (value_at levels kind) size self.now)) }
     {
-        let mut ahead = self.copied();
+        let mut ahead = self.fork();
         for _ in 0..size {
             ahead = ahead.after_value(kind, levels)?;
         }
@@ -385,9 +390,10 @@ impl<'a> Reader<'a> {
         size: u32,
         levels: u32,
     ) -> Result<Reader<'a>, ThriftRefusal>
-        ensures { Answers (λ reader. reader) result (rest_of (elements_at (pair_at (value_at levels) key value) size self.now)) }
+        ensures { Answers (λ reader. reader) result
+            (rest_of (elements_at (pair_at (value_at levels) key value) size self.now)) }
     {
-        let mut ahead = self.copied();
+        let mut ahead = self.fork();
         for _ in 0..size {
             ahead = ahead.after_pair(key, value, levels)?;
         }
@@ -396,7 +402,8 @@ impl<'a> Reader<'a> {
 
     #[cycle(after_value)]
     fn after_pair(&self, key: u8, value: u8, levels: u32) -> Result<Reader<'a>, ThriftRefusal>
-        ensures { Answers (λ reader. reader) result (rest_of (pair_at (value_at levels) key value self.now)) }
+        ensures { Answers (λ reader. reader) result
+            (rest_of (pair_at (value_at levels) key value self.now)) }
     {
         let ahead = self.after_value(part_kind(key), levels)?;
         ahead.after_value(part_kind(value), levels)

@@ -1,4 +1,5 @@
-/// Why bytes aren't read: the first refusal from left to right, with the place of the first byte of the item that it names.
+/// Why bytes aren't read: the first refusal from left to right. `at` is the place of the first byte of the item that
+/// it names.
 #[derive(Clone, Copy, Debug, PartialEq, Eq)]
 pub enum ThriftRefusal {
     /// The bytes end within a header, a varint, a body of fixed size, or a binary, which is named by its length.
@@ -7,6 +8,7 @@ pub enum ThriftRefusal {
     BadType { at: u64 },
     /// A container stands inside 32 containers. It is named by the first byte of its body.
     TooDeep { at: u64 },
-    /// A varint doesn't end within ten bytes or is 2^64 or more; or a number, an id, a size or a length is out of its range.
+    /// A varint doesn't end within ten bytes or is 2^64 or more; or a number, an id, a size or a length is out of its
+    /// range.
     Overlong { at: u64 },
 }

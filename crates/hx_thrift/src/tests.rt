@@ -47,6 +47,7 @@ fn stands_right(reader: &Reader<'_>, bytes: &[u8], base: u16, ok: bool, left: us
 fn fields_of_a_struct(rt: HostRuntime) {
     let mut reader = Reader::new(&[0x15, 0x02, 0x00], 0);
     assert_eq!(rt; reader.field(0), Ok(Some(Field { id: 1, kind: 5 })));
+    assert_eq!(rt; reader.fork().int(5), Ok(1));
     assert_eq!(rt; reader.int(5), Ok(1));
     assert_eq!(rt; reader.field(1), Ok(None));
     assert_eq!(rt; reader.place(), 3);

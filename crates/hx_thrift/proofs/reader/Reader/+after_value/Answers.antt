@@ -74,18 +74,18 @@ after_pair-returns t c =
 pub after_sequence-returns-in_err-head : goal.after_sequence-returns-in_err-head
 after_sequence-returns-in_err-head t c =
     let given = err_from_is_err_and c.from_residual.result c.from_residual.ensures.1 in
-    rw (given.1, given.2) (no_list_head (value_at c.args.levels) c.args.self.now c.in_err-head.field-0.0 (rw c.copied-ahead.ensures at c.in_err-head.ensures.value.0))
+    rw (given.1, given.2) (no_list_head (value_at c.args.levels) c.args.self.now c.in_err-head.field-0.0 (rw c.fork-ahead.ensures at c.in_err-head.ensures.value.0))
 
 pub after_sequence-returns : goal.after_sequence-returns
 after_sequence-returns t c =
-    let head = rw c.copied-ahead.ensures at c.in_ok-head.ensures.value in
+    let head = rw c.fork-ahead.ensures at c.in_ok-head.ensures.value in
     rw (behind_list_head (value_at c.args.levels) c.args.self.now c.list.new.self c.in_ok-head.head head, ← c.part_kind.ensures) c.after_elements.ensures
 
 pub after_struct-loop-init : goal.after_struct-loop-init
 unfolding struct_at
 after_struct-loop-init t c =
     let count = ap (λ (text : Text). length text.bytes) c.self.view_is in
-    rw (sub-zero, c.copied-ahead.ensures, count) refl
+    rw (sub-zero, c.fork-ahead.ensures, count) refl
 
 pub after_struct-returns-in_err-field : goal.after_struct-returns-in_err-field
 after_struct-returns-in_err-field t c =
