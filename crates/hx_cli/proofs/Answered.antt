@@ -5,12 +5,13 @@ use Rattle.hx_base.specs.declared.refusal.Refusal.TheVariants as refusal
 use Rattle.hx_outside.specs.Faults.{Rose}
 use Rattle.hx_cli.specs.FirstRefusal.{IsExact, MayBeInstead, MayStandInPlace, Shows}
 use Rattle.hx_cli.specs.Runs.{Gains, IsCaused, IsCommandCause, IsOwnCause, NoneRose, Prints}
-use Rattle.hx_cli.specs.Words.{Command, HasNoMeaning, Histogram, Plan}
+use Rattle.hx_cli.specs.Words.{Around, Command, HasNoMeaning, Histogram, Plan}
 
 -- no command refuses its own words
 pub not_usage : (command : Command) → IsOwnCause command refusal.Usage → ⊥
 not_usage (Histogram order files) own = own
 not_usage (Plan lowest highest threshold files) own = own
+not_usage (Around order pixel) own = own
 
 module _ {S : Type 0} (told : S → Option (List ℕ)) (label : S → List ℕ) (faults : S → ℕ) (words : List (List ℕ)) (before now : List S) where
   caused-by : (r : Refusal) (sink_before sink_now : ℕ) → (r ≡ refusal.Usage → HasNoMeaning words) → (r ≢ refusal.Usage → IsCommandCause told label faults words before now r)
@@ -40,6 +41,7 @@ module _ {S : Type 0} (told : S → Option (List ℕ)) (label : S → List ℕ) 
   stands-alone (refusal.InputFault i) b n free (inr (inr (command, means, inl cause))) still = let d = element before i cause.0 in absurd (still i d cause.0 (cause.1 d))
   stands-alone (refusal.InputFault i) b n free (inr (inr (Histogram order files, means, inr own))) still = absurd own
   stands-alone (refusal.InputFault i) b n free (inr (inr (Plan l h t files, means, inr own))) still = absurd own
+  stands-alone (refusal.InputFault i) b n free (inr (inr (Around k p, means, inr own))) still = absurd own
   stands-alone _ b n free cause still = absurd free
 
   sink-alone : (b n : ℕ) → IsCaused told label faults words before now b n refusal.SinkFault → Rose b n
@@ -48,6 +50,7 @@ module _ {S : Type 0} (told : S → Option (List ℕ)) (label : S → List ℕ) 
   sink-alone b n (inr (inr (command, means, inl cause))) = absurd cause
   sink-alone b n (inr (inr (Histogram order files, means, inr own))) = absurd own
   sink-alone b n (inr (inr (Plan l h t files, means, inr own))) = absurd own
+  sink-alone b n (inr (inr (Around k p, means, inr own))) = absurd own
 
   -- where no refusal comes first and no count rose, only want of memory is refused
   pub memory_alone : (outcome : Option Refusal) (b n : ℕ) (none : Type 0) → (outcome ≡ None) ⊎ MayBeInstead outcome none → IfSome outcome (IsCaused told label faults words before now b n)

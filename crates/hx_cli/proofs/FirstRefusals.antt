@@ -13,7 +13,7 @@ use Rattle.hx_cli.specs.Plans.{IsCutRefusal}
 use Rattle.hx_rows.specs.Reading.{rows_of}
 use Rattle.hx_cli.specs.FirstRefusal.{AreRows, IsFirstRefusal, IsLaterRefusal, IsPlanRefusal, MayStandInPlace, OrElse, Shows, bad_input, fault_of, too_long, too_many_inputs}
 use Rattle.hx_cli.specs.Limits.{above, most_bytes}
-use Rattle.hx_cli.specs.Words.{Command, Histogram, Plan}
+use Rattle.hx_cli.specs.Words.{Around, Command, Histogram, Plan}
 
 -- the next input's length, and its fault
 pub long_next : (bytes : List (List ℕ)) (i : ℕ) → i < length bytes → too_long (drop i bytes) ≡ option_or (above 2 most_bytes (length (get_or bytes i []))) (too_long (drop (i + 1) bytes))
@@ -93,6 +93,7 @@ one-plan lowest highest threshold names bytes a b (rows, are, cut) (others, are'
 one-later : (command : Command) (names bytes : List (List ℕ)) (a b : Option Refusal) → IsLaterRefusal command names bytes a → IsLaterRefusal command names bytes b → a ≡ b
 one-later (Histogram order files) names bytes a b ha hb = ha ∙ sym hb
 one-later (Plan lowest highest threshold files) names bytes a b ha hb = one-of (bad_input 0 names bytes) (IsPlanRefusal lowest highest threshold names bytes) (one-plan lowest highest threshold names bytes) a b ha hb
+one-later (Around order pixel) names bytes a b ha hb = ha ∙ sym hb
 
 -- a command has one first refusal
 pub one_first : (command : Command) (names bytes : List (List ℕ)) (a b : Option Refusal) → IsFirstRefusal command names bytes a → IsFirstRefusal command names bytes b → a ≡ b

@@ -8,3 +8,4 @@ pub mod Answered
 pub mod HistCounts
 pub mod HistText
 pub mod Planned
+pub mod Spaced

@@ -8,7 +8,7 @@ use Rattle.hx_base.specs.Pixels.{count_in}
 use Rattle.hx_rows.specs.Reading.{rows_of}
 use Rattle.hx_cli.specs.Limits.{above, most_bytes, most_inputs}
 use Rattle.hx_cli.specs.Plans.{IsCutRefusal}
-use Rattle.hx_cli.specs.Words.{Command, Histogram, Plan}
+use Rattle.hx_cli.specs.Words.{Around, Command, Histogram, Plan}
 
 -- the first refusal is that one, or where there is none the first of the others
 abbrev pub OrElse : Option Refusal → (Option Refusal → Type 0) → Option Refusal → Type 0
@@ -49,6 +49,7 @@ IsPlanRefusal lowest highest threshold names bytes first = (rows : List Row) × 
 abbrev pub IsLaterRefusal : Command → List (List ℕ) → List (List ℕ) → Option Refusal → Type 0
 IsLaterRefusal (Histogram order files) names bytes first = first ≡ bad_input 0 names bytes
 IsLaterRefusal (Plan lowest highest threshold files) names bytes first = OrElse (bad_input 0 names bytes) (IsPlanRefusal lowest highest threshold names bytes) first
+IsLaterRefusal (Around order pixel) names bytes first = first ≡ None
 
 -- the first refusal of a command over inputs with these names and bytes: too many inputs; one that is too long; then
 -- what the command itself refuses; or that there is none

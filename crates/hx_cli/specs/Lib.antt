@@ -8,3 +8,4 @@ pub mod Inputs
 pub mod Texts
 pub mod Limits
 pub mod Plans
+pub mod Neighbours

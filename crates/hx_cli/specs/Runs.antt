@@ -9,9 +9,10 @@ use Rattle.hx_outside.specs.Sources.{SameSource}
 use Rattle.hx_rows.specs.Reading.{rows_of}
 use Rattle.hx_cli.specs.FirstRefusal.{AreRows}
 use Rattle.hx_cli.specs.Limits.{most_bytes, most_inputs}
+use Rattle.hx_cli.specs.Neighbours.{IsAroundText}
 use Rattle.hx_cli.specs.Plans.{IsCutCause, IsPlanText}
 use Rattle.hx_cli.specs.Histograms.{histogram_text}
-use Rattle.hx_cli.specs.Words.{Command, Histogram, Means, HasNoMeaning, Plan}
+use Rattle.hx_cli.specs.Words.{Around, Command, Histogram, Means, HasNoMeaning, Plan}
 
 -- the same sources in the same order: each tells the same bytes under the same name, and no count fell
 pub record SameSources {S : Type 0} (told : S → Option (List ℕ)) (label : S → List ℕ) (faults : S → ℕ) (before now : List S) : Type 0 where
@@ -49,6 +50,7 @@ NoneRose {S} faults before now = (i : ℕ) (d : S) → i < length before → Ros
 abbrev pub IsOwnCause : Command → Refusal → Type 0
 IsOwnCause (Histogram order files) r = ⊥
 IsOwnCause (Plan lowest highest threshold files) r = IsCutCause threshold r
+IsOwnCause (Around order pixel) r = ⊥
 
 -- the cause of a refusal of a line that has a meaning
 abbrev pub IsCommandCause : {S : Type 0} → (S → Option (List ℕ)) → (S → List ℕ) → (S → ℕ) → List (List ℕ) → List S → List S → Refusal → Type 0
@@ -63,6 +65,7 @@ IsCaused told label faults words before now sink_before sink_now r =
 abbrev pub IsTextOf : Command → List (List ℕ) → List (List ℕ) → List ℕ → Type 0
 IsTextOf (Histogram order files) names bytes text = (rows : List Row) × AreRows names bytes rows × (text ≡ histogram_text order rows)
 IsTextOf (Plan lowest highest threshold files) names bytes text = (rows : List Row) × AreRows names bytes rows × IsPlanText lowest highest threshold rows text
+IsTextOf (Around order pixel) names bytes text = IsAroundText order pixel text
 
 -- the same of the words of a command line
 abbrev pub IsOutput : List (List ℕ) → List (List ℕ) → List (List ℕ) → List ℕ → Type 0

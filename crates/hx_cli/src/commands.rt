@@ -5,13 +5,15 @@ ghost use Rattle.hx_align.specs.Plans.{IsPlanOf, totals_of};
 ghost use Rattle.hx_align.specs.declared.plan.PlanRow.{PlanRow};
 ghost use Rattle.hx_cli.specs.FirstRefusal.{IsLaterRefusal, Shows, bad_input};
 ghost use Rattle.hx_cli.specs.Limits.{most_inputs};
+ghost use Rattle.hx_cli.specs.Neighbours.{IsAroundText};
 ghost use Rattle.hx_cli.specs.Plans.{IsCutCause, IsCutRefusal, partition_line};
-ghost use Rattle.hx_cli.specs.Requests.{IsHistogramRequest, IsPlanRequest, IsSound, command_of};
+ghost use Rattle.hx_cli.specs.Requests.{IsAroundRequest, IsHistogramRequest, IsPlanRequest, IsSound, command_of};
 ghost use Rattle.hx_cli.specs.Runs.{IsInputsCause, IsOwnCause, IsTextOf, SameSources, Tell};
 ghost use Rattle.hx_cli.specs.Words.{Histogram, Plan};
 
 use crate::inputs::count_inputs;
 use crate::lines::lines_of;
+use crate::neighbours::line_around;
 use crate::planning::{lines_of_plan, partitions};
 use crate::words::Action;
 use hx_base::Refusal;
@@ -92,6 +94,18 @@ fn plan<Src: Source>(
     plan_text(alloc, &counts, lowest, highest, threshold)
 }
 
+// The line of the pixels round a pixel.
+fn around(alloc: Global, order: u8, pixel: u64) -> Result<Vec<u8>, Refusal>
+    requires { IsAroundRequest order pixel }
+    ensures text { IfOk result (λ text. IsAroundText order pixel text.items) }
+    ensures memory { IfErr result (λ r. r ≡ Refusal.Memory) }
+{
+    match line_around(alloc, order, pixel) {
+        Ok(text) => Ok(text),
+        Err(_) => Err(Refusal::Memory),
+    }
+}
+
 /// The text that an action gives over inputs that keep to the limits.
 pub fn act<Src: Source>(
     alloc: Global,
@@ -118,5 +132,6 @@ pub fn act<Src: Source>(
             highest,
             threshold,
         } => plan(alloc, lowest, highest, threshold, inputs),
+        Action::Around { order, pixel } => around(alloc, order, pixel),
     }
 }

@@ -7,6 +7,7 @@ mod input;
 mod inputs;
 mod lines;
 mod names;
+mod neighbours;
 mod number;
 mod options;
 mod planning;

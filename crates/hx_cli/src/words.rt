@@ -1,13 +1,14 @@
 //! The words of the command line.
-ghost use Rattle.std.specs.Prelude.{◌≡◌, ◌≤◌, ◌<◌, ◌∷◌, ℕ, All, IfSome, MatchOption, IsTrue, ◌↔◌, codes, length, map, string_bytes, drop, List};
+ghost use Rattle.std.specs.Prelude.{◌≡◌, ◌≢◌, ◌≤◌, ◌<◌, ◌*◌, ◌^◌, ◌∷◌, [], ℕ, All, IfSome, MatchOption, IsTrue, ◌↔◌, codes, length, map, string_bytes, drop, List};
+ghost use Rattle.std.specs.Fmt.{decimal};
 ghost use Rattle.std.specs.Option.{unwrap_or};
 ghost use Rattle.hx_cli.specs.Options.{InRange, kept};
 ghost use Rattle.hx_cli.specs.Requests.{IsRequest};
-ghost use Rattle.hx_cli.specs.Words.{AreFiles, HasNoMeaning, IsCsvWord, IsHistogramLine, IsPlanLine};
+ghost use Rattle.hx_cli.specs.Words.{AreFiles, HasNoMeaning, IsCsvWord, IsAroundLine, IsHistogramLine, IsPlanLine};
 ghost use Rattle.hx_cli.specs.declared.options.OptionName.{OptionName};
 ghost use Rattle.hx_cli.specs.declared.options.OptionName.TheVariants.{Highest, Lowest, Threshold};
 
-use crate::number::order;
+use crate::number::{number, order};
 use crate::options::{Options, read_options};
 use hx_base::{is_csv_name, is_file_word};
 
@@ -23,6 +24,11 @@ pub enum Action {
         lowest: u8,
         highest: u8,
         threshold: u64,
+    },
+    /// The pixels that touch a pixel of an order.
+    Around {
+        order: u8,
+        pixel: u64,
     },
 }
 
@@ -165,6 +171,46 @@ fn plan_request(words: &[String]) -> Option<Request>
     plan_of_line(command.as_str(), line)
 }
 
+// A pixel of an order.
+fn pixel_of(order: u8, word: &str) -> Option<u64>
+    requires { order ≤ 29 }
+    ensures { MatchOption result ((p : ℕ) → p < 12 * 4 ^ order → word.now ≢ decimal p)
+        (λ p. (p < 12 * 4 ^ order) × (word.now ≡ decimal p)) }
+{
+    let pixel = number(word)?;
+    if pixel >= 12 << (2 * order) {
+        return None;
+    }
+    Some(pixel)
+}
+
+// The request of a line `around K P`, by its parts.
+fn around_of_line(command: &str, order_word: &str, pixel_word: &str) -> Option<Request>
+    ensures { let words = command.now ∷ order_word.now ∷ pixel_word.now ∷ [] in
+        MatchOption result ((k p : ℕ) → IsAroundLine words k p → ⊥) (IsRequest words) }
+{
+    if command != "around" {
+        return None;
+    }
+    let order = order(order_word)?;
+    let pixel = pixel_of(order, pixel_word)?;
+    Some(Request {
+        action: Action::Around { order, pixel },
+        files: 3,
+    })
+}
+
+// The request of a line `around K P`.
+fn around_request(words: &[String]) -> Option<Request>
+    ensures { MatchOption result ((k p : ℕ) → IsAroundLine (map string_bytes words.now) k p → ⊥)
+        (IsRequest (map string_bytes words.now)) }
+{
+    let [command, order_word, pixel_word] = words else {
+        return None;
+    };
+    around_of_line(command.as_str(), order_word.as_str(), pixel_word.as_str())
+}
+
 /// What the words of a line ask for, if they have a meaning.
 pub fn request_of(words: &[String]) -> Option<Request>
     ensures { MatchOption result (HasNoMeaning (map string_bytes words.now)) (IsRequest (map string_bytes words.now)) }
@@ -172,5 +218,8 @@ pub fn request_of(words: &[String]) -> Option<Request>
     if let Some(request) = histogram_request(words) {
         return Some(request);
     }
-    plan_request(words)
+    if let Some(request) = plan_request(words) {
+        return Some(request);
+    }
+    around_request(words)
 }
