@@ -1,4 +1,5 @@
 //! The top call over sources and sinks in memory. The expected texts are counted by hand.
+mod around;
 mod blank;
 mod plan;
 mod several;
@@ -208,7 +209,15 @@ fn lines_without_a_meaning(rt: HostRuntime) -> Result<(), Fail> {
         "histogram 0 -a.csv",
         "histogram --x 0 a.csv",
         "-h",
-        "around 0 0",
+        "around 0",
+        "around 0 12",
+        "around 30 0",
+        "around 1 48",
+        "around 29 3458764513820540928",
+        "around 0 0 0",
+        "around 00 0",
+        "around 0 -1",
+        "around 0 a.csv",
     ];
     for line in lines {
         let shown = run(rt.alloc(), line, b"")?;
