@@ -1,15 +1,17 @@
 -- Touching pixels of HEALPix's nested scheme.
 --
--- The sphere is cut into twelve faces: 0 to 3 round the north pole, 4 to 7 on the equator, 8 to 11 round the south pole, each numbered
--- eastwards. At order k a face is a grid of n * n pixels with n = 2 ^ k. It stands on its south corner: x grows to the north-east and
--- y to the north-west, so the corners of its pixels have x and y from 0 to n.
+-- Twelve faces cover the sphere: 0 to 3 round the north pole, 4 to 7 along the equator, 8 to 11 round the south pole, each row numbered
+-- eastwards. At order k a face is a grid of n * n pixels, n = 2 ^ k, that stands on its south corner: x grows to the north-east and y to
+-- the north-west. So the corners of its pixels have coordinates from 0 to n.
 --
--- HEALPix's projection sends all corners with one x + y of a face to one parallel, so they lie on rings, numbered from 0 at the north
--- pole to 4n at the south pole. Between the polar caps, on the rings from n to 3n, the faces are plain squares of the projection: a step
--- north-east goes half a pixel's diagonal to the east, a step north-west half a diagonal to the west, and 8n halves go round. In a cap
--- the faces are gores that narrow to the pole: the ring that is v rings from the pole has v steps on each of the cap's four faces, so 4v
--- in all, and a pole is one point. Faces that meet give the corners on their common side the same rings and places, so the sphere needs
--- no table of sides.
+-- HEALPix's projection puts the corners of a face that have one x + y on one parallel. So all corners lie on rings, numbered from 0 at
+-- the north pole to 4n at the south pole.
+-- On the belt between the polar caps, the rings n to 3n, faces are squares that stand on a corner: a step of x goes half a pixel's width
+-- to the east, a step of y half a width to the west, and 8n halves go round.
+-- In a cap the faces narrow towards the pole. On the ring v rings from the pole each of the cap's four faces has v steps, counted from its
+-- western side, so 4v go round; at the pole itself there is one point.
+-- A corner where several faces meet gets one ring and one place from each of them. That alone says which pixels touch, without a table
+-- of sides.
 use Rattle.std.specs.Prelude.{◌≡◌, ◌≢◌, ◌==◌, ◌+◌, ◌-◌, ◌*◌, ◌/◌, ◌%◌, ◌^◌, ◌<◌, ◌≤◌, ◌||◌, if◌then◌else◌, ℕ, zero, suc, nat_lt}
 
 -- the lowest k bits of x at the even places, and those of y at the odd places
@@ -24,15 +26,15 @@ pub record IsAt (order pixel face x y : ℕ) : Type 0 where
   pub y_range : y < 2 ^ order
   pub number : pixel ≡ face * 4 ^ order + interleave order x y
 
--- the ring of a corner: a face's south corner is 2, 3 or 4 sides below the north pole, by its row of faces
+-- the ring of a corner: a face's south corner is on ring 2n, 3n or 4n, by its row of faces
 abbrev pub ring : ℕ → ℕ → ℕ → ℕ → ℕ
 ring n face x y = (2 + face / 4) * n - x - y
 
--- the middle of a face between the caps, in sides to the east: odd in the rows at the poles, even in the row on the equator
+-- how far east the middle of a face on the belt is, in n half widths: odd in the rows at the poles, even on the equator
 abbrev pub middle : ℕ → ℕ
 middle face = 2 * (face % 4) + (face / 4 + 1) % 2
 
--- the place of a corner of a face on ring v, counted eastwards from the meridian of face 0's west corner
+-- the place of a corner of a face on ring v, eastwards from the meridian of face 0's western corner
 abbrev pub place_on : ℕ → ℕ → ℕ → ℕ → ℕ → ℕ
 place_on n face x y v =
     if v == 0 || v == 4 * n then 0

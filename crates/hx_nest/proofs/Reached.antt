@@ -1,5 +1,5 @@
 -- Each step leads to a pixel that shares a corner, and each pixel that shares a corner is reached by a step.
-use Rattle.std.proofs.Common.{◌≡◌, ◌∙◌, ◌==◌, ◌+◌, ◌-◌, ◌<◌, ◌≤◌, ℕ, Option, Some, None, true, false, refl, sym, ap, subst, arith, inl, inr, slice_index, eq-eqb}
+use Rattle.std.proofs.Common.{◌≢◌, ◌≡◌, ◌∙◌, ◌==◌, ◌+◌, ◌-◌, ◌<◌, ◌≤◌, ℕ, Option, Some, None, true, false, refl, sym, ap, subst, arith, inl, inr, slice_index, eq-eqb}
 use Rattle.std.proofs.lemmas.Bool.{ne_eqb}
 use Rattle.hx_base.specs.Touching.{corner_point}
 use Rattle.hx_nest.specs.declared.place.FaceXy.{FaceXy}
@@ -41,9 +41,9 @@ never : (P : Type 0) (o : Option FaceXy) (q : FaceXy) → o ≡ None → o ≡ S
 never P o q e f = cc
 
 module _ (last f x y : ℕ) (hf : f < 12) (hx : x ≤ last) (hy : y ≤ last) where
-  reach : (side : Side) (h p q u v i j k m a b : ℕ) → Crosses last side f u v h p q → Crosses (last + 1) side f (x + i) (y + j) h a b → LiesOn (last + 1) side (x + i) (y + j) → h < 12 → (h ≡ f → ⊥) → p ≤ last → q ≤ last
-      → i ≤ 1 → j ≤ 1 → k ≤ 1 → m ≤ 1 → a ≡ p + k → b ≡ q + m → (pixel : FaceXy) → across last side f u v ≡ Some pixel → IsReached last f x y pixel
-  reach side h p q u v i j k m a b crosses corner on small off hp hq hi hj hk hm ea eb pixel e =
+  reach : (side : Side) (h p q u v i j k m a b : ℕ) → Crosses last side f u v h p q → Crosses (last + 1) side f (x + i) (y + j) h a b → LiesOn (last + 1) side (x + i) (y + j)
+      → (h < 12) × (h ≢ f) × (p ≤ last) × (q ≤ last) × (i ≤ 1) × (j ≤ 1) × (k ≤ 1) × (m ≤ 1) × (a ≡ p + k) × (b ≡ q + m) → (pixel : FaceXy) → across last side f u v ≡ Some pixel → IsReached last f x y pixel
+  reach side h p q u v i j k m a b crosses corner on (small, off, hp, hq, hi, hj, hk, hm, ea, eb) pixel e =
       let joined = joined_point (last + 1) (x + i) (y + j) h a b (omega arith) (omega arith) (omega arith) small f hf (record { side = side; on_side = on; joined = corner.0; place = corner.1 }) in
       got (IsReached last f x y) (across last side f u v) (record { face = h; x = p; y = q }) pixel (lands last side f u v h p q crosses small) e
       (record {
@@ -79,71 +79,53 @@ module _ (last x y : ℕ) (hx : x ≤ last) (hy : y ≤ last) where
   leads_north : (c : ℕ) → c < 4 → (px py : Coordinate) → Leads last c x y px py
   leads_north c hc (Within a) (Within b) na nb off pixel e = stays last c x y (omega arith) hx hy a b na nb off pixel e
   leads_north c hc Below Below na nb off pixel e =
-      reach last c x y (omega arith) hx hy South (8 + c) last last 0 0 0 0 1 1 (last + 1) (last + 1) (table.south_0 last c 0 0 hc) (table.south_0 (last + 1) c (x + 0) (y + 0) hc) (omega arith, omega arith) (omega arith) (λ e. omega arith)
-      (omega arith) (omega arith) (omega arith) (omega arith) (omega arith) (omega arith) (omega arith) (omega arith) pixel e
+      reach last c x y (omega arith) hx hy South (8 + c) last last 0 0 0 0 1 1 (last + 1) (last + 1) (table.south_0 last c 0 0 hc) (table.south_0 (last + 1) c (x + 0) (y + 0) hc) (omega arith, omega arith) (omega arith) pixel e
   leads_north c hc (Within a) Below na nb off pixel e =
-      reach last c x y (omega arith) hx hy SouthEast (4 + next c) a last a 0 (a - x) 0 (x - a) 1 (x + (a - x)) (last + 1) (table.south_east_0 last c a 0 hc) (table.south_east_0 (last + 1) c (x + (a - x)) (y + 0) hc) (omega arith) (omega arith) (λ e. omega arith)
-      (omega arith) (omega arith) (omega arith) (omega arith) (omega arith) (omega arith) (omega arith) (omega arith) pixel e
+      reach last c x y (omega arith) hx hy SouthEast (4 + next c) a last a 0 (a - x) 0 (x - a) 1 (x + (a - x)) (last + 1) (table.south_east_0 last c a 0 hc) (table.south_east_0 (last + 1) c (x + (a - x)) (y + 0) hc) (omega arith) (omega arith) pixel e
   leads_north c hc Above Below na nb off pixel e = never (IsReached last c x y pixel) (across last East c last 0) pixel (nothing last East c last 0 (table.east_0 c hc)) e
   leads_north c hc Below (Within b) na nb off pixel e =
-      reach last c x y (omega arith) hx hy SouthWest (4 + c) last b 0 b 0 (b - y) 1 (y - b) (last + 1) (y + (b - y)) (table.south_west_0 last c 0 b hc) (table.south_west_0 (last + 1) c (x + 0) (y + (b - y)) hc) (omega arith) (omega arith) (λ e. omega arith)
-      (omega arith) (omega arith) (omega arith) (omega arith) (omega arith) (omega arith) (omega arith) (omega arith) pixel e
+      reach last c x y (omega arith) hx hy SouthWest (4 + c) last b 0 b 0 (b - y) 1 (y - b) (last + 1) (y + (b - y)) (table.south_west_0 last c 0 b hc) (table.south_west_0 (last + 1) c (x + 0) (y + (b - y)) hc) (omega arith) (omega arith) pixel e
   leads_north c hc Above (Within b) na nb off pixel e =
-      reach last c x y (omega arith) hx hy NorthEast (next c) b last last b 1 (b - y) (y - b) 1 (y + (b - y)) (last + 1) (table.north_east_0 last c last b hc) (table.north_east_0 (last + 1) c (x + 1) (y + (b - y)) hc) (omega arith) (omega arith) (λ e. omega arith)
-      (omega arith) (omega arith) (omega arith) (omega arith) (omega arith) (omega arith) (omega arith) (omega arith) pixel e
+      reach last c x y (omega arith) hx hy NorthEast (next c) b last last b 1 (b - y) (y - b) 1 (y + (b - y)) (last + 1) (table.north_east_0 last c last b hc) (table.north_east_0 (last + 1) c (x + 1) (y + (b - y)) hc) (omega arith) (omega arith) pixel e
   leads_north c hc Below Above na nb off pixel e = never (IsReached last c x y pixel) (across last West c 0 last) pixel (nothing last West c 0 last (table.west_0 c hc)) e
   leads_north c hc (Within a) Above na nb off pixel e =
-      reach last c x y (omega arith) hx hy NorthWest (prev c) last a a last (a - x) 1 1 (x - a) (last + 1) (x + (a - x)) (table.north_west_0 last c a last hc) (table.north_west_0 (last + 1) c (x + (a - x)) (y + 1) hc) (omega arith) (omega arith) (λ e. omega arith)
-      (omega arith) (omega arith) (omega arith) (omega arith) (omega arith) (omega arith) (omega arith) (omega arith) pixel e
+      reach last c x y (omega arith) hx hy NorthWest (prev c) last a a last (a - x) 1 1 (x - a) (last + 1) (x + (a - x)) (table.north_west_0 last c a last hc) (table.north_west_0 (last + 1) c (x + (a - x)) (y + 1) hc) (omega arith) (omega arith) pixel e
   leads_north c hc Above Above na nb off pixel e =
-      reach last c x y (omega arith) hx hy North (opposite c) last last last last 1 1 1 1 (last + 1) (last + 1) (table.north_0 last c last last hc) (table.north_0 (last + 1) c (x + 1) (y + 1) hc) (omega arith, omega arith) (omega arith) (λ e. omega arith)
-      (omega arith) (omega arith) (omega arith) (omega arith) (omega arith) (omega arith) (omega arith) (omega arith) pixel e
+      reach last c x y (omega arith) hx hy North (opposite c) last last last last 1 1 1 1 (last + 1) (last + 1) (table.north_0 last c last last hc) (table.north_0 (last + 1) c (x + 1) (y + 1) hc) (omega arith, omega arith) (omega arith) pixel e
 
   leads_equator : (c : ℕ) → c < 4 → (px py : Coordinate) → Leads last (4 + c) x y px py
   leads_equator c hc (Within a) (Within b) na nb off pixel e = stays last (4 + c) x y (omega arith) hx hy a b na nb off pixel e
   leads_equator c hc Below Below na nb off pixel e = never (IsReached last (4 + c) x y pixel) (across last South (4 + c) 0 0) pixel (nothing last South (4 + c) 0 0 (table.south_1 c hc)) e
   leads_equator c hc (Within a) Below na nb off pixel e =
-      reach last (4 + c) x y (omega arith) hx hy SouthEast (8 + c) a last a 0 (a - x) 0 (x - a) 1 (x + (a - x)) (last + 1) (table.south_east_1 last c a 0 hc) (table.south_east_1 (last + 1) c (x + (a - x)) (y + 0) hc) (omega arith) (omega arith) (λ e. omega arith)
-      (omega arith) (omega arith) (omega arith) (omega arith) (omega arith) (omega arith) (omega arith) (omega arith) pixel e
+      reach last (4 + c) x y (omega arith) hx hy SouthEast (8 + c) a last a 0 (a - x) 0 (x - a) 1 (x + (a - x)) (last + 1) (table.south_east_1 last c a 0 hc) (table.south_east_1 (last + 1) c (x + (a - x)) (y + 0) hc) (omega arith) (omega arith) pixel e
   leads_equator c hc Above Below na nb off pixel e =
-      reach last (4 + c) x y (omega arith) hx hy East (4 + next c) 0 last last 0 1 0 0 1 0 (last + 1) (table.east_1 last c last 0 hc) (table.east_1 (last + 1) c (x + 1) (y + 0) hc) (omega arith, omega arith) (omega arith) (λ e. omega arith)
-      (omega arith) (omega arith) (omega arith) (omega arith) (omega arith) (omega arith) (omega arith) (omega arith) pixel e
+      reach last (4 + c) x y (omega arith) hx hy East (4 + next c) 0 last last 0 1 0 0 1 0 (last + 1) (table.east_1 last c last 0 hc) (table.east_1 (last + 1) c (x + 1) (y + 0) hc) (omega arith, omega arith) (omega arith) pixel e
   leads_equator c hc Below (Within b) na nb off pixel e =
-      reach last (4 + c) x y (omega arith) hx hy SouthWest (8 + prev c) last b 0 b 0 (b - y) 1 (y - b) (last + 1) (y + (b - y)) (table.south_west_1 last c 0 b hc) (table.south_west_1 (last + 1) c (x + 0) (y + (b - y)) hc) (omega arith) (omega arith) (λ e. omega arith)
-      (omega arith) (omega arith) (omega arith) (omega arith) (omega arith) (omega arith) (omega arith) (omega arith) pixel e
+      reach last (4 + c) x y (omega arith) hx hy SouthWest (8 + prev c) last b 0 b 0 (b - y) 1 (y - b) (last + 1) (y + (b - y)) (table.south_west_1 last c 0 b hc) (table.south_west_1 (last + 1) c (x + 0) (y + (b - y)) hc) (omega arith) (omega arith) pixel e
   leads_equator c hc Above (Within b) na nb off pixel e =
-      reach last (4 + c) x y (omega arith) hx hy NorthEast c 0 b last b 1 (b - y) 0 (y - b) 0 (y + (b - y)) (table.north_east_1 last c last b hc) (table.north_east_1 (last + 1) c (x + 1) (y + (b - y)) hc) (omega arith) (omega arith) (λ e. omega arith)
-      (omega arith) (omega arith) (omega arith) (omega arith) (omega arith) (omega arith) (omega arith) (omega arith) pixel e
+      reach last (4 + c) x y (omega arith) hx hy NorthEast c 0 b last b 1 (b - y) 0 (y - b) 0 (y + (b - y)) (table.north_east_1 last c last b hc) (table.north_east_1 (last + 1) c (x + 1) (y + (b - y)) hc) (omega arith) (omega arith) pixel e
   leads_equator c hc Below Above na nb off pixel e =
-      reach last (4 + c) x y (omega arith) hx hy West (4 + prev c) last 0 0 last 0 1 1 0 (last + 1) 0 (table.west_1 last c 0 last hc) (table.west_1 (last + 1) c (x + 0) (y + 1) hc) (omega arith, omega arith) (omega arith) (λ e. omega arith)
-      (omega arith) (omega arith) (omega arith) (omega arith) (omega arith) (omega arith) (omega arith) (omega arith) pixel e
+      reach last (4 + c) x y (omega arith) hx hy West (4 + prev c) last 0 0 last 0 1 1 0 (last + 1) 0 (table.west_1 last c 0 last hc) (table.west_1 (last + 1) c (x + 0) (y + 1) hc) (omega arith, omega arith) (omega arith) pixel e
   leads_equator c hc (Within a) Above na nb off pixel e =
-      reach last (4 + c) x y (omega arith) hx hy NorthWest (prev c) a 0 a last (a - x) 1 (x - a) 0 (x + (a - x)) 0 (table.north_west_1 last c a last hc) (table.north_west_1 (last + 1) c (x + (a - x)) (y + 1) hc) (omega arith) (omega arith) (λ e. omega arith)
-      (omega arith) (omega arith) (omega arith) (omega arith) (omega arith) (omega arith) (omega arith) (omega arith) pixel e
+      reach last (4 + c) x y (omega arith) hx hy NorthWest (prev c) a 0 a last (a - x) 1 (x - a) 0 (x + (a - x)) 0 (table.north_west_1 last c a last hc) (table.north_west_1 (last + 1) c (x + (a - x)) (y + 1) hc) (omega arith) (omega arith) pixel e
   leads_equator c hc Above Above na nb off pixel e = never (IsReached last (4 + c) x y pixel) (across last North (4 + c) last last) pixel (nothing last North (4 + c) last last (table.north_1 c hc)) e
 
   leads_south : (c : ℕ) → c < 4 → (px py : Coordinate) → Leads last (8 + c) x y px py
   leads_south c hc (Within a) (Within b) na nb off pixel e = stays last (8 + c) x y (omega arith) hx hy a b na nb off pixel e
   leads_south c hc Below Below na nb off pixel e =
-      reach last (8 + c) x y (omega arith) hx hy South (8 + opposite c) 0 0 0 0 0 0 0 0 0 0 (table.south_2 last c 0 0 hc) (table.south_2 (last + 1) c (x + 0) (y + 0) hc) (omega arith, omega arith) (omega arith) (λ e. omega arith)
-      (omega arith) (omega arith) (omega arith) (omega arith) (omega arith) (omega arith) (omega arith) (omega arith) pixel e
+      reach last (8 + c) x y (omega arith) hx hy South (8 + opposite c) 0 0 0 0 0 0 0 0 0 0 (table.south_2 last c 0 0 hc) (table.south_2 (last + 1) c (x + 0) (y + 0) hc) (omega arith, omega arith) (omega arith) pixel e
   leads_south c hc (Within a) Below na nb off pixel e =
-      reach last (8 + c) x y (omega arith) hx hy SouthEast (8 + next c) 0 a a 0 (a - x) 0 0 (x - a) 0 (x + (a - x)) (table.south_east_2 last c a 0 hc) (table.south_east_2 (last + 1) c (x + (a - x)) (y + 0) hc) (omega arith) (omega arith) (λ e. omega arith)
-      (omega arith) (omega arith) (omega arith) (omega arith) (omega arith) (omega arith) (omega arith) (omega arith) pixel e
+      reach last (8 + c) x y (omega arith) hx hy SouthEast (8 + next c) 0 a a 0 (a - x) 0 0 (x - a) 0 (x + (a - x)) (table.south_east_2 last c a 0 hc) (table.south_east_2 (last + 1) c (x + (a - x)) (y + 0) hc) (omega arith) (omega arith) pixel e
   leads_south c hc Above Below na nb off pixel e = never (IsReached last (8 + c) x y pixel) (across last East (8 + c) last 0) pixel (nothing last East (8 + c) last 0 (table.east_2 c hc)) e
   leads_south c hc Below (Within b) na nb off pixel e =
-      reach last (8 + c) x y (omega arith) hx hy SouthWest (8 + prev c) b 0 0 b 0 (b - y) (y - b) 0 (y + (b - y)) 0 (table.south_west_2 last c 0 b hc) (table.south_west_2 (last + 1) c (x + 0) (y + (b - y)) hc) (omega arith) (omega arith) (λ e. omega arith)
-      (omega arith) (omega arith) (omega arith) (omega arith) (omega arith) (omega arith) (omega arith) (omega arith) pixel e
+      reach last (8 + c) x y (omega arith) hx hy SouthWest (8 + prev c) b 0 0 b 0 (b - y) (y - b) 0 (y + (b - y)) 0 (table.south_west_2 last c 0 b hc) (table.south_west_2 (last + 1) c (x + 0) (y + (b - y)) hc) (omega arith) (omega arith) pixel e
   leads_south c hc Above (Within b) na nb off pixel e =
-      reach last (8 + c) x y (omega arith) hx hy NorthEast (4 + next c) 0 b last b 1 (b - y) 0 (y - b) 0 (y + (b - y)) (table.north_east_2 last c last b hc) (table.north_east_2 (last + 1) c (x + 1) (y + (b - y)) hc) (omega arith) (omega arith) (λ e. omega arith)
-      (omega arith) (omega arith) (omega arith) (omega arith) (omega arith) (omega arith) (omega arith) (omega arith) pixel e
+      reach last (8 + c) x y (omega arith) hx hy NorthEast (4 + next c) 0 b last b 1 (b - y) 0 (y - b) 0 (y + (b - y)) (table.north_east_2 last c last b hc) (table.north_east_2 (last + 1) c (x + 1) (y + (b - y)) hc) (omega arith) (omega arith) pixel e
   leads_south c hc Below Above na nb off pixel e = never (IsReached last (8 + c) x y pixel) (across last West (8 + c) 0 last) pixel (nothing last West (8 + c) 0 last (table.west_2 c hc)) e
   leads_south c hc (Within a) Above na nb off pixel e =
-      reach last (8 + c) x y (omega arith) hx hy NorthWest (4 + c) a 0 a last (a - x) 1 (x - a) 0 (x + (a - x)) 0 (table.north_west_2 last c a last hc) (table.north_west_2 (last + 1) c (x + (a - x)) (y + 1) hc) (omega arith) (omega arith) (λ e. omega arith)
-      (omega arith) (omega arith) (omega arith) (omega arith) (omega arith) (omega arith) (omega arith) (omega arith) pixel e
+      reach last (8 + c) x y (omega arith) hx hy NorthWest (4 + c) a 0 a last (a - x) 1 (x - a) 0 (x + (a - x)) 0 (table.north_west_2 last c a last hc) (table.north_west_2 (last + 1) c (x + (a - x)) (y + 1) hc) (omega arith) (omega arith) pixel e
   leads_south c hc Above Above na nb off pixel e =
-      reach last (8 + c) x y (omega arith) hx hy North c 0 0 last last 1 1 0 0 0 0 (table.north_2 last c last last hc) (table.north_2 (last + 1) c (x + 1) (y + 1) hc) (omega arith, omega arith) (omega arith) (λ e. omega arith)
-      (omega arith) (omega arith) (omega arith) (omega arith) (omega arith) (omega arith) (omega arith) (omega arith) pixel e
+      reach last (8 + c) x y (omega arith) hx hy North c 0 0 last last 1 1 0 0 0 0 (table.north_2 last c last last hc) (table.north_2 (last + 1) c (x + 1) (y + 1) hc) (omega arith, omega arith) (omega arith) pixel e
 
   pub leads : (f : ℕ) → f < 12 → (px py : Coordinate) → Leads last f x y px py
   leads = by_row (λ f. (px py : Coordinate) → Leads last f x y px py) leads_north leads_equator leads_south

@@ -26,8 +26,8 @@ LiesOn n NorthWest x y = y ≡ n
 LiesOn n North x y = (x ≡ n) × (y ≡ n)
 
 -- what (x, y) at a side or vertex of a face becomes on the face beyond, on a grid with coordinates from 0 to last. Mostly the coordinate
--- towards the side starts again at its other end. Round the poles, where north-east leads to a face whose north-west side is the same, it
--- stays at its end and the coordinates are exchanged.
+-- that leads there starts again at its other end. Between two faces at one pole the side is one of x on the one face and of y on the other,
+-- at the same end: there the coordinates are exchanged.
 abbrev pub beyond : ℕ → Side → ℕ → ℕ → ℕ → ℕ × ℕ
 beyond last South face x y = if nat_lt face 8 then (last, last) else (0, 0)
 beyond last SouthEast face x y = if nat_lt face 8 then (x, last) else (0, x)

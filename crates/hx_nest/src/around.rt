@@ -1,12 +1,9 @@
 //! The pixels round a pixel, as a short ascending list.
-ghost use Rattle.std.specs.Prelude.{◌≡◌, ◌↔◌, ◌+◌, ◌∷◌, ◌<◌, ◌≤◌, [], ℕ, AllPairs, Contains, IsTrue, length, slice_index, take};
+ghost use Rattle.std.specs.Prelude.{◌≡◌, ◌↔◌, ◌+◌, ◌<◌, ◌≤◌, [], Contains, IsTrue, length, slice_index, take};
 ghost use Rattle.std.specs.List.{insert, AllWithin};
 ghost use Rattle.hx_nest.specs.Lists.{Ascends, Adds};
 
 use std::marker::Model;
-
-// A pixel has at most eight neighbours.
-const MOST: usize = 8;
 
 /// At most eight pixels, ascending. It is seen as the list of their numbers.
 #[derive(Debug, Drop)]
@@ -17,7 +14,6 @@ pub struct Around {
 
 impl Model for Around {
     ghost use Rattle.std.specs.Prelude.{List, ℕ, take, ◌≤◌};
-    ghost use Rattle.hx_nest.specs.Lists as Lists;
 
     ghost Value = { List ℕ };
 
@@ -56,7 +52,7 @@ impl Around {
         }
     }
 
-    // Adds a pixel, if it is none of them.
+    // Puts a pixel at its place, if it isn't there already.
     pub(crate) fn insert(&mut self, pixel: u64)
         requires ascending { Ascends self.old }
         requires room { length self.old < 8 }

@@ -42,8 +42,8 @@ pub fn after(last: u32, x: u32) -> Coordinate
     }
 }
 
-// What the coordinates at a side or vertex of a face become on the face beyond. Round a pole, where both faces
-// have the same end there, they are exchanged.
+// What the coordinates at a side or vertex of a face become on the face beyond. Between two faces at one pole
+// the side is one of x on the one face and of y on the other, at the same end: there they are exchanged.
 fn turned(last: u32, side: Side, face: u8, x: u32, y: u32) -> (u32, u32)
     ensures { result ≡ beyond last side face x y }
 {
