@@ -9,3 +9,4 @@ pub mod HistCounts
 pub mod HistText
 pub mod Planned
 pub mod Spaced
+pub mod Tables

@@ -80,6 +80,25 @@ pub fn check_inputs<Src: Source>(inputs: &mut Vec<Src>) -> Result<(), Refusal>
     check_lengths(inputs)
 }
 
+// Adds counts to those so far. The first ones are taken over.
+fn add_counts(counts: &mut Hist, more: Hist) -> Result<(), Refusal>
+    requires order { counts.old.order ≡ more.order }
+    requires total { total_of counts.old.pairs + total_of more.pairs < 2 ^ 64 }
+    ensures order { counts.new.order ≡ counts.old.order }
+    ensures counts { OnOk result ((p : ℕ) → count_at p counts.new.pairs ≡ count_at p counts.old.pairs + count_at p more.pairs) }
+    ensures total { OnOk result (total_of counts.new.pairs ≡ total_of counts.old.pairs + total_of more.pairs) }
+    ensures memory { IfErr result (λ r. r ≡ Refusal.Memory) }
+{
+    if counts.pairs().is_empty() {
+        *counts = more;
+        return Ok(());
+    }
+    match counts.merge(&more) {
+        Ok(()) => Ok(()),
+        Err(_) => Err(Refusal::Memory),
+    }
+}
+
 // Counts the rows of one more input, by pixel. Its bytes and rows are let go.
 fn count_input<Src: Source>(
     alloc: Global,
@@ -104,10 +123,7 @@ fn count_input<Src: Source>(
     let Ok(more) = count_rows(alloc, counts.order(), rows.as_slice()) else {
         return Err(Refusal::Memory);
     };
-    if counts.merge(&more).is_err() {
-        return Err(Refusal::Memory);
-    }
-    Ok(())
+    add_counts(counts, more)
 }
 
 /// The rows of all inputs, counted by pixel. Inputs are read one after the other.

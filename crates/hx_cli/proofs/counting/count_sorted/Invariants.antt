@@ -1,6 +1,6 @@
 use Rattle.std.proofs.Common.{◌≡◌, ◌==◌, ℕ, count_by, take}
 use Rattle.hx_hist.specs.Histograms.{count_at, total_of}
-use Rattle.hx_cli.proofs.counting.count_rows.Given as goal
+use Rattle.hx_cli.proofs.counting.count_sorted.Given as goal
 
 abbrev pub invariant-loop-pixel : goal.invariant-loop-pixel
 invariant-loop-pixel l = record {
