@@ -1,0 +1,12 @@
+use Rattle.hx_ptree.proofs.Lists.{ascend, consecutive}
+use Rattle.hx_ptree.proofs.Ranges.{holds_range}
+use Rattle.hx_ptree.proofs.laws.ranges_of_partitions.Goals as goal
+
+pub returns-clause-range : goal.returns-clause-range
+returns-clause-range c = holds_range
+
+pub returns-clause-ascending : goal.returns-clause-ascending
+returns-clause-ascending c = ascend
+
+pub returns-clause-consecutive : goal.returns-clause-consecutive
+returns-clause-consecutive c = λ pixels pixel disjoint exists. consecutive pixels disjoint pixel exists
