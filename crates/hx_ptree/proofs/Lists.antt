@@ -1,6 +1,6 @@
 -- Disjoint pixels in order: their ranges ascend, and what searches by halves find among them.
 use Rattle.std.specs.Bool.{then_some}
-use Rattle.std.proofs.Common.{◌≡◌, ◌∙◌, ◌+◌, ◌-◌, ◌*◌, ◌^◌, ◌<◌, ◌≤◌, ◌↔◌, inl, inr, ℕ, List, Bool, true, false, IsTrue, Some, None, refl, ltb, leb, length, get_or, sym, subst, arith}
+use Rattle.std.proofs.Common.{◌≡◌, ◌+◌, ◌-◌, ◌<◌, ◌≤◌, ◌↔◌, inl, inr, ℕ, List, Bool, true, false, IsTrue, Some, None, refl, ltb, leb, length, get_or, subst, arith}
 use Rattle.std.specs.List.{All, AllPairs, AllWithin, slice_get}
 use Rattle.std.specs.List.Sorted.{IsPartitionedBy}
 use Rattle.std.proofs.lemmas.Bool.{cases_eq, cases_lt, false≢true, ltb-true, lt-ltb, leb-true, le-leb}
@@ -9,6 +9,17 @@ use Rattle.hx_base.specs.declared.pixel.Pixel.{Pixel}
 use Rattle.hx_base.specs.Pixels.{AreDisjointInOrder, HoldsPlace, IsPixel, end_place, first_place, pixel_of}
 use Rattle.hx_ptree.specs.Searches.{AreConsecutive, IsHolder, IsSpan, Overlaps}
 use Rattle.hx_ptree.proofs.Ranges.{begins_by, ends_by, ends_first, holds_range, overlap_where_met, ranges_meet, some_range}
+
+-- existing pixels whose ranges ascend are disjoint
+pub disjoint_where_ascending : (pixels : List Pixel) → All IsPixel pixels → AllPairs (λ a b. end_place a ≤ first_place b) pixels → AreDisjointInOrder pixels
+disjoint_where_ascending pixels each up = record {
+  each = each;
+  disjoint = λ i j d lt within place holds_first holds_second.
+      let first = (holds_range (get_or pixels i d) place).0 holds_first in
+      let second = (holds_range (get_or pixels j d) place).0 holds_second in
+      omega (arith, up i j d lt within, first.1, second.0);
+  ordered = λ i j d lt within. omega (arith, up i j d lt within, some_range (get_or pixels i d));
+}
 
 module _ (pixels : List Pixel) (h : AreDisjointInOrder pixels) where
   pub ascend : AllPairs (λ a b. end_place a ≤ first_place b) pixels

@@ -1,11 +1,11 @@
 -- The range of a pixel's positions, and what it tells of two pixels.
-use Rattle.std.proofs.Common.{◌≡◌, ◌∙◌, ◌+◌, ◌-◌, ◌*◌, ◌/◌, ◌^◌, ◌<◌, ◌≤◌, ◌↔◌, ◌⊎◌, inl, inr, ℕ, sym, ap, arith}
+use Rattle.std.proofs.Common.{◌*◌, ◌^◌, ◌-◌, ◌+◌, ◌∙◌, ◌/◌, ◌<◌, ◌≤◌, ◌↔◌, inl, inr, ℕ, sym, ap, arith}
 use Rattle.std.proofs.lemmas.Bool.{cases_lt}
-use Rattle.std.proofs.Math.Nat.{le-div_iff_mul-le, mul-le-mul_right}
+use Rattle.std.proofs.Math.Nat.{le-div_iff_mul-le}
 use Rattle.hx_base.specs.declared.pixel.Pixel.{Pixel}
 use Rattle.hx_base.specs.Pixels.{AreDisjoint, HoldsPlace, IsPixel, LiesIn, end_place, first_place, pixel_of}
 use Rattle.hx_base.proofs.Partitions.{holds_outer, up_again}
-use Rattle.hx_base.proofs.Powers.{four_pos}
+use Rattle.hx_base.proofs.Powers.{children_end, four_pos}
 use Rattle.hx_ptree.specs.Searches.{Overlaps}
 
 pub ends_by : (pixel : Pixel) (place : ℕ) → (pixel.number < pixel_of pixel.order place) ↔ (end_place pixel ≤ place)
@@ -49,6 +49,9 @@ pub some_range : (pixel : Pixel) → first_place pixel < end_place pixel
 some_range pixel =
     let some = four_pos (29 - pixel.order) in
     grind arith
+
+pub range_within : (pixel : Pixel) → IsPixel pixel → end_place pixel ≤ 12 * 4 ^ 29
+range_within pixel exists = children_end pixel.number pixel.order 29 exists.order (omega arith) exists.number
 
 pub first_held : (pixel : Pixel) → HoldsPlace pixel (first_place pixel)
 first_held pixel = (holds_range pixel (first_place pixel)).1 (omega arith, some_range pixel)

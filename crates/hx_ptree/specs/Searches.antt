@@ -3,8 +3,8 @@ use Rattle.std.specs.Prelude.{◌≡◌, ◌+◌, ◌<◌, ◌≤◌, ◌⊎◌,
 use Rattle.hx_base.specs.declared.pixel.Pixel.{Pixel}
 use Rattle.hx_base.specs.Pixels.{AreDisjointInOrder, HoldsPlace, LiesIn, end_place, first_place}
 
--- a list of partitions that is searched
-pub record IsSearched (pixels : List Pixel) : Type 0 where
+-- what the partitions of a catalogue keep
+pub record IsPartitionList (pixels : List Pixel) : Type 0 where
   pub most : length pixels ≤ 100000
   pub disjoint : AreDisjointInOrder pixels
 
@@ -17,7 +17,7 @@ IsHolder pixels place None = All (λ part. ¬ (HoldsPlace part place)) pixels
 abbrev pub Overlaps : Pixel → Pixel → Type 0
 Overlaps a b = LiesIn a b ⊎ LiesIn b a
 
--- the partitions that overlap a pixel are so many from an index on, and those below the index are the ones before the pixel
+-- a pixel's span: so many partitions overlap it, from an index on, and those below the index end at or before its first position
 pub record IsSpan (pixels : List Pixel) (pixel : Pixel) (first count : ℕ) : Type 0 where
   pub within : first + count ≤ length pixels
   pub before : (index : ℕ) (part : Pixel) → slice_get pixels index ≡ Some part → (index < first) ↔ (end_place part ≤ first_place pixel)

@@ -22,7 +22,8 @@ fn pixel_at(order: u8, place: u64) -> u64
 /// The first position of a pixel.
 pub fn first_place(pixel: Pixel) -> u64
     requires { IsPixel pixel }
-    ensures { result ≡ first_place pixel }
+    ensures first { result ≡ first_place pixel }
+    ensures range { result < 12 * 4 ^ 29 }
 {
     pixel.number << bits_below(pixel.order)
 }
@@ -30,7 +31,8 @@ pub fn first_place(pixel: Pixel) -> u64
 /// The last position of a pixel.
 pub fn last_place(pixel: Pixel) -> u64
     requires { IsPixel pixel }
-    ensures { result + 1 ≡ end_place pixel }
+    ensures last { result + 1 ≡ end_place pixel }
+    ensures range { result < 12 * 4 ^ 29 }
 {
     ((pixel.number + 1) << bits_below(pixel.order)) - 1
 }

@@ -1,7 +1,7 @@
 //! The list of partitions that is searched.
 ghost use Rattle.std.specs.Prelude.{◌≡◌, ◌*◌, ◌^◌, ◌<◌, ◌≤◌, IfOk, length};
 ghost use Rattle.hx_base.specs.Pixels.{AreDisjointInOrder, IsPixel};
-ghost use Rattle.hx_ptree.specs.Searches.{IsHolder, IsSpan};
+ghost use Rattle.hx_ptree.specs.Searches.{IsHolder, IsPartitionList, IsSpan};
 
 use crate::search::{count_before, count_begun, first_place, holds, last_place};
 use hx_base::Pixel;
@@ -33,7 +33,7 @@ impl Model for PixelTree {
 
     ghost view = { λ tree. tree.parts.items };
 
-    ghost invariant = { λ tree. Searches.IsSearched tree.parts.items };
+    ghost invariant = { λ tree. Searches.IsPartitionList tree.parts.items };
 }
 
 impl PixelTree {
@@ -50,7 +50,8 @@ impl PixelTree {
     /// The index of the partition that holds an order-29 position.
     pub fn holder(&self, hp: u64) -> Option<u32>
         requires { hp < 12 * 4 ^ 29 }
-        ensures { IsHolder self.now hp result }
+        ensures holder { IsHolder self.now hp result }
+        ensures list { IsPartitionList self.now }
     {
         let parts = self.parts.as_slice();
         let index = count_before(parts, hp);
@@ -62,7 +63,8 @@ impl PixelTree {
     /// partitions before the pixel.
     pub fn overlapping(&self, pixel: Pixel) -> Span
         requires { IsPixel pixel }
-        ensures { IsSpan self.now pixel result.first result.count }
+        ensures span { IsSpan self.now pixel result.first result.count }
+        ensures list { IsPartitionList self.now }
     {
         let parts = self.parts.as_slice();
         let first = count_before(parts, first_place(pixel));

@@ -8,8 +8,8 @@ use Rattle.hx_ptree.specs.Searches.{IsHolder}
 use Rattle.hx_ptree.proofs.Lists.{holder_is, no_holder}
 use Rattle.hx_ptree.proofs.tree.PixelTree.holder.Goals as goal
 
-pub returns-in_err-part : goal.returns-in_err-part
-returns-in_err-part c =
+pub returns-in_err-part-clause-holder : goal.returns-in_err-part-clause-holder
+returns-in_err-part-clause-holder c =
     let parts = c.as_slice-parts in
     let disjoint = subst AreDisjointInOrder (sym parts.ensures.value) c.self.invariant.disjoint in
     let index = c.count_before-index in
@@ -17,8 +17,8 @@ returns-in_err-part c =
     let none = no_holder parts.result.now disjoint c.args.hp index.result (index.ensures.before, index.ensures.after) past in
     rw c.from_residual.ensures (subst (λ (pixels : List Pixel). IsHolder pixels c.args.hp None) (parts.ensures.value ∙ c.self.view_is) none)
 
-pub returns : goal.returns
-returns c =
+pub returns-clause-holder : goal.returns-clause-holder
+returns-clause-holder c =
     let parts = c.as_slice-parts in
     let disjoint = subst AreDisjointInOrder (sym parts.ensures.value) c.self.invariant.disjoint in
     let index = c.count_before-index in

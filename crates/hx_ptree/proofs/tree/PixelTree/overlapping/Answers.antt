@@ -1,4 +1,4 @@
-use Rattle.std.proofs.Common.{◌≡◌, ◌∙◌, ◌-◌, ◌≤◌, List, subst, sym}
+use Rattle.std.proofs.Common.{◌∙◌, ◌-◌, List, subst, sym}
 use Rattle.hx_base.specs.Pixels.{AreDisjointInOrder}
 use Rattle.hx_base.specs.declared.pixel.Pixel.{Pixel}
 use Rattle.hx_ptree.specs.Searches.{IsSpan}
@@ -10,14 +10,14 @@ overflow_sub-result c =
     let disjoint = subst AreDisjointInOrder (sym c.as_slice-parts.ensures.value) c.self.invariant.disjoint in
     let first = c.count_before-first in
     let end = c.count_begun-end in
-    ends_in_order c.as_slice-parts.result.now disjoint c.args.pixel c.first_place.result c.last_place.result first.result end.result c.requires c.first_place.ensures c.last_place.ensures
+    ends_in_order c.as_slice-parts.result.now disjoint c.args.pixel c.first_place.result c.last_place.result first.result end.result c.requires c.first_place.ensures.first c.last_place.ensures.last
     first.ensures.within end.ensures.within first.ensures.before first.ensures.after end.ensures.begun end.ensures.later
 
-pub returns : goal.returns
-returns c =
+pub returns-clause-span : goal.returns-clause-span
+returns-clause-span c =
     let disjoint = subst AreDisjointInOrder (sym c.as_slice-parts.ensures.value) c.self.invariant.disjoint in
     let first = c.count_before-first in
     let end = c.count_begun-end in
-    let span = is_span c.as_slice-parts.result.now disjoint c.args.pixel c.first_place.result c.last_place.result first.result end.result c.requires c.first_place.ensures c.last_place.ensures
-        first.ensures.within end.ensures.within first.ensures.before first.ensures.after end.ensures.begun end.ensures.later in
+    let span = is_span c.as_slice-parts.result.now disjoint c.args.pixel c.first_place.result c.last_place.result first.result end.result c.requires c.first_place.ensures.first c.last_place.ensures.last
+    first.ensures.within end.ensures.within first.ensures.before first.ensures.after end.ensures.begun end.ensures.later in
     subst (λ (parts : List Pixel). IsSpan parts c.args.pixel first.result (end.result - first.result)) (c.as_slice-parts.ensures.value ∙ c.self.view_is) span
