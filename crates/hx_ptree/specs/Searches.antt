@@ -17,7 +17,7 @@ IsHolder pixels place None = All (λ part. ¬ (HoldsPlace part place)) pixels
 abbrev pub Overlaps : Pixel → Pixel → Type 0
 Overlaps a b = LiesIn a b ⊎ LiesIn b a
 
--- a pixel's span: so many partitions overlap it, from an index on, and those below the index end at or before its first position
+-- `count` partitions overlap a pixel, from index `first` on; those below `first` are the ones that end at or before its first position
 pub record IsSpan (pixels : List Pixel) (pixel : Pixel) (first count : ℕ) : Type 0 where
   pub within : first + count ≤ length pixels
   pub before : (index : ℕ) (part : Pixel) → slice_get pixels index ≡ Some part → (index < first) ↔ (end_place part ≤ first_place pixel)

@@ -8,7 +8,7 @@ use hx_base::Pixel;
 use std::alloc::{AllocError, Global};
 use std::marker::Model;
 
-/// Partitions that stand one behind another, by the index of the first and how many they are.
+/// A run of consecutive partitions: the index of the first, and how many they are.
 #[derive(Clone, Copy, Debug, PartialEq, Eq)]
 pub struct Span {
     pub first: u32,
@@ -47,7 +47,7 @@ impl PixelTree {
         Ok(PixelTree { parts })
     }
 
-    /// The index of the partition that holds an order-29 position.
+    /// The index of the partition that holds an order-29 position, or none where none holds it.
     pub fn holder(&self, hp: u64) -> Option<u32>
         requires { hp < 12 * 4 ^ 29 }
         ensures holder { IsHolder self.now hp result }
