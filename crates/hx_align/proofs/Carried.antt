@@ -1,11 +1,10 @@
 -- What an alignment answers by some counts it answers by all that agree with them; and its answer is one.
-use Rattle.std.proofs.Common.{◌≡◌, ◌≢◌, ◌∙◌, ◌∷◌, ◌≤◌, ◌<◌, [], ℕ, List, Result, Ok, Err, zero, suc, length, refl, sym, ap, arith, get_or, map, inl, inr}
-use Rattle.std.specs.List.{All, Contains}
+use Rattle.std.proofs.Common.{◌≡◌, ◌≢◌, ◌∙◌, ◌∷◌, ◌≤◌, [], ℕ, List, Result, Ok, Err, suc, length, refl, sym, ap, arith, get_or, inl, inr}
+use Rattle.std.specs.List.{All}
 use Rattle.std.proofs.lemmas.Bool.{cases_order}
 use Rattle.std.proofs.lemmas.List.{get_or-map, length-map}
-use Rattle.std.proofs.lemmas.List.Elements.{All-head, All-tail}
 use Rattle.hx_base.specs.declared.pixel.Pixel.{Pixel}
-use Rattle.hx_base.specs.Partitions.{ArePartitions, IsFirstOverfull, NothingOverfull}
+use Rattle.hx_base.specs.Partitions.{IsFirstOverfull}
 use Rattle.hx_base.proofs.Partitions.{Agree, first_overfull_over, nothing_overfull_over, partitions_over, partitions_unique}
 use Rattle.hx_align.specs.declared.plan.AlignRefusal.{AlignRefusal}
 use Rattle.hx_align.specs.declared.plan.AlignRefusal.TheVariants as refusal

@@ -1,16 +1,16 @@
 -- The plan of some counts and the plan of one more pixel's counts make a plan of both.
-use Rattle.std.proofs.Common.{◌≡◌, ◌≢◌, ◌∙◌, ◌+◌, ◌-◌, ◌*◌, ◌/◌, ◌^◌, ◌<◌, ◌≤◌, ◌∷◌, ◌++◌, [], ℕ, List, zero, suc, length, refl, sym, ap, arith, inl, inr, ◌⊎◌, ◌↔◌, map, get_or, subst}
+use Rattle.std.proofs.Common.{◌≡◌, ◌≢◌, ◌∙◌, ◌+◌, ◌-◌, ◌*◌, ◌/◌, ◌^◌, ◌<◌, ◌≤◌, ◌∷◌, ◌++◌, [], ℕ, List, length, refl, sym, ap, arith, inl, inr, ◌↔◌, get_or, subst}
 use Rattle.std.specs.List.{All, AllPairs, Contains}
-use Rattle.std.proofs.lemmas.Bool.{cases_eq, cases_lt, cases_order}
+use Rattle.std.proofs.lemmas.Bool.{cases_eq, cases_lt}
 use Rattle.std.proofs.lemmas.List.{map-append, get_or-append-add, get_or-map, length-append, length-map}
-use Rattle.std.proofs.lemmas.List.Elements.{All-append, All-cons, All-nil, All-contains, All-contains_itself, Contains-append_left, Contains-append_right, Contains-append_cases}
+use Rattle.std.proofs.lemmas.List.Elements.{All-append, All-cons, All-nil, All-contains_itself, Contains-append_left, Contains-append_right, Contains-append_cases}
 use Rattle.std.proofs.Math.ListN.{get_or-append}
 use Rattle.std.proofs.Math.Nat.{div-lt_iff_lt-mul, le-div_iff_mul-le, mul-le-mul_right}
 use Rattle.std.proofs.lemmas.Nat.{pow-add}
 use Rattle.hx_base.specs.declared.pixel.Pixel.{Pixel}
 use Rattle.hx_base.specs.Pixels.{IsPixel, first_place}
-use Rattle.hx_base.specs.Partitions.{ArePartitions, IsPartition, parent}
-use Rattle.hx_base.proofs.Partitions.{parent_exists, parent_up}
+use Rattle.hx_base.specs.Partitions.{IsPartition, parent}
+use Rattle.hx_base.proofs.Partitions.{parent_up}
 use Rattle.hx_base.proofs.Powers.{four_pos}
 use Rattle.hx_align.specs.declared.plan.PlanRow.{PlanRow}
 use Rattle.hx_align.specs.Plans.{IsPlanOf, pixels_of}

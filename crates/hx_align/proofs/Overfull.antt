@@ -1,5 +1,5 @@
 -- The first pair above the threshold is that of the first overfull pixel.
-use Rattle.std.proofs.Common.{◌≡◌, ◌∙◌, ◌+◌, ◌-◌, ◌*◌, ◌/◌, ◌^◌, ◌<◌, ◌≤◌, ◌∷◌, [], ℕ, List, Bool, true, false, zero, suc, length, refl, sym, ap, arith, inl, inr, get_or, ltb, Option, Some, None, subst}
+use Rattle.std.proofs.Common.{◌≡◌, ◌-◌, ◌/◌, ◌^◌, ◌<◌, ◌≤◌, ◌∷◌, [], ℕ, List, Bool, true, false, zero, suc, length, sym, ap, arith, inl, inr, get_or, ltb, Option, Some, None, subst}
 use Rattle.std.specs.List.{All, find}
 use Rattle.std.specs.Prelude.{IfNone, IfSome}
 use Rattle.std.proofs.lemmas.Bool.{cases_Bool, cases_order, ltb-true, ltb-false}

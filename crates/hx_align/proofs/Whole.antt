@@ -1,5 +1,5 @@
 -- The plan of a whole histogram.
-use Rattle.std.proofs.Common.{◌≡◌, ◌∙◌, ◌≤◌, ◌<◌, [], ℕ, List, length, sym, ap, arith, get_or, subst}
+use Rattle.std.proofs.Common.{◌≤◌, [], ℕ, List, length, sym, arith, get_or, subst}
 use Rattle.std.proofs.lemmas.List.{get_or-map, length-map}
 use Rattle.hx_base.specs.declared.pixel.Pixel.{Pixel}
 use Rattle.hx_base.proofs.Partitions.{IsMonotone, partitions_disjoint}

@@ -19,8 +19,10 @@ fn first_above(pairs: &[Pair], threshold: u64) -> Option<Pair>
 
 // The first pair whose pixel is overfull.
 fn first_overfull(hist: &Hist, threshold: u64) -> Option<Pair>
-    ensures found { IfSome result (λ pair. IsFirstOverfull (totals_of hist.now) hist.now.order threshold pair.pixel) }
-    ensures count { IfSome result (λ pair. pair.count ≡ totals_of hist.now (record { order = hist.now.order; number = pair.pixel })) }
+    ensures found { IfSome result (λ pair.
+        IsFirstOverfull (totals_of hist.now) hist.now.order threshold pair.pixel) }
+    ensures count { IfSome result (λ pair.
+        pair.count ≡ totals_of hist.now (record { order = hist.now.order; number = pair.pixel })) }
     ensures none { IfNone result (NothingOverfull (totals_of hist.now) hist.now.order threshold) }
     ensures fits { IfNone result (All (λ pair. pair.count ≤ threshold) hist.now.pairs) }
 {
@@ -36,18 +38,19 @@ fn partitions_of(
 ) -> Result<Vec<PlanRow>, AllocError>
     requires lowest { lowest ≤ hist.now.order }
     requires fits { All (λ pair. pair.count ≤ threshold) hist.now.pairs }
-    ensures { IfOk result (λ rows. IsPlanOf (totals_of hist.now) lowest hist.now.order threshold rows.items) }
+    ensures { IfOk result (λ rows.
+        IsPlanOf (totals_of hist.now) lowest hist.now.order threshold rows.items) }
 {
     let mut rows = Vec::new(alloc);
     append_partitions(&mut rows, hist.pairs(), lowest, hist.order(), threshold)?;
     Ok(rows)
 }
 
-/// The partitions of counted rows: the largest pixels of orders from the lowest to the highest that contain at
-/// most so many rows as the threshold. The histogram is one of the highest order.
+/// The partitions of counted rows: the largest pixels of orders from the lowest to the highest that contain rows,
+/// and no more of them than the threshold. The histogram is one of the highest order.
 ///
-/// The first pixel of the highest order with more rows than the threshold is refused as overfull, and then more
-/// than 100000 partitions. Each pair is summed up once at each order at most.
+/// A pixel of the highest order with more rows than the threshold is refused as overfull, the first such one; then
+/// more than 100000 partitions are refused. Each pair is summed up once at each order at most.
 pub fn align(
     alloc: Global,
     hist: &Hist,

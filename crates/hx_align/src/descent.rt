@@ -1,5 +1,5 @@
 //! Cutting counted pixels into partitions.
-ghost use Rattle.std.specs.Prelude.{◌≡◌, ◌+◌, ◌*◌, ◌/◌, ◌^◌, ◌<◌, ◌≤◌, ◌≢◌, All, OnOk, length, take, slice_index_or};
+ghost use Rattle.std.specs.Prelude.{◌≡◌, ◌+◌, ◌*◌, ◌/◌, ◌^◌, ◌<◌, ◌≤◌, ◌≢◌, ◌↔◌, All, IsTrue, OnOk, length, take, slice_index_or};
 ghost use Rattle.hx_hist.specs.Histograms.{IsHistogram, total_in, total_of};
 ghost use Rattle.hx_hist.specs.declared.hist.Pair.{Pair};
 ghost use Rattle.hx_align.specs.Plans.{AppendsPlan};
@@ -23,6 +23,15 @@ struct Run {
     number: u64,
     pairs: usize,
     count: u64,
+}
+
+impl Run {
+    // Whether the run's pixel has no more rows than the threshold.
+    fn fits(&self, threshold: u64) -> bool
+        ensures { IsTrue result ↔ (self.now.count ≤ threshold) }
+    {
+        self.count <= threshold
+    }
 }
 
 // The pairs at the head of a list that lie in the same pixel as the first, so many orders above.
@@ -72,13 +81,14 @@ pub fn append_partitions(
     requires histogram { IsHistogram highest pairs.now }
     requires total { total_of pairs.now < 2 ^ 64 }
     requires fits { All (λ pair. pair.count ≤ threshold) pairs.now }
-    ensures { OnOk result (AppendsPlan (λ pixel. total_in pixel highest pairs.now) lowest highest threshold rows.old.items rows.new.items) }
+    ensures { OnOk result (AppendsPlan (λ pixel. total_in pixel highest pairs.now) lowest highest threshold
+        rows.old.items rows.new.items) }
 {
     let mut start = 0;
     while start < pairs.len() {
         let run = first_run(&pairs[start..], highest - lowest);
         let end = start + run.pairs;
-        if run.count <= threshold {
+        if run.fits(threshold) {
             let pixel = Pixel {
                 order: lowest,
                 number: run.number,

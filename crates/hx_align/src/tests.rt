@@ -45,9 +45,7 @@ fn check_planned(
     requires { lowest ≤ 1 }
 {
     let hist = hist_of(alloc, 1, 48, added)?;
-    let plan = align(alloc, &hist, lowest, 1, threshold)
-        .ok()
-        .ok_or("refused")?;
+    let plan = align(alloc, &hist, lowest, 1, threshold)?;
     assert!(rt; is_planned(plan.rows(), wanted));
     Ok(())
 }
@@ -87,10 +85,20 @@ fn partitions_are_the_largest_pixels(rt: HostRuntime) -> Result<(), Fail> {
     )
 }
 
-fn refusal_of(alloc: Global, hist: &Hist, lowest: u8, threshold: u64) -> Option<AlignRefusal>
+// The refusal, if there is one. Want of memory is an error here.
+fn refusal_of(
+    alloc: Global,
+    hist: &Hist,
+    lowest: u8,
+    threshold: u64,
+) -> Result<Option<AlignRefusal>, AlignRefusal>
     requires { lowest ≤ hist.now.order }
 {
-    align(alloc, hist, lowest, hist.order(), threshold).err()
+    match align(alloc, hist, lowest, hist.order(), threshold) {
+        Ok(_) => Ok(None),
+        Err(AlignRefusal::Memory) => Err(AlignRefusal::Memory),
+        Err(refusal) => Ok(Some(refusal)),
+    }
 }
 
 #[test]
@@ -105,7 +113,7 @@ fn the_first_overfull_pixel_is_named(rt: HostRuntime) -> Result<(), Fail> {
     for (added, threshold, wanted) in cases {
         let hist = hist_of(alloc, 1, 48, &added)?;
         let refusal = wanted.map(|(pixel, count)| AlignRefusal::Overfull { pixel, count });
-        assert_eq!(&rt; refusal_of(alloc, &hist, 0, threshold), refusal);
+        assert_eq!(&rt; refusal_of(alloc, &hist, 0, threshold)?, refusal);
     }
     Ok(())
 }
@@ -126,13 +134,13 @@ fn row_in_each(alloc: Global, pixels: u64) -> Result<Hist, AllocError>
 fn partitions_are_at_most_100000(rt: HostRuntime) -> Result<(), Fail> {
     let alloc = rt.alloc();
     let most = row_in_each(alloc, 100_000)?;
-    let plan = align(alloc, &most, 9, 9, 1).ok().ok_or("refused")?;
+    let plan = align(alloc, &most, 9, 9, 1)?;
     assert_eq!(&rt; plan.rows().len(), 100_000);
     let more = row_in_each(alloc, 100_001)?;
     let refusal = Some(AlignRefusal::TooMany { found: 100_001 });
-    assert_eq!(&rt; refusal_of(alloc, &more, 9, 1), refusal);
+    assert_eq!(&rt; refusal_of(alloc, &more, 9, 1)?, refusal);
     // They are fewer where a lower order will do.
-    let plan = align(alloc, &more, 8, 9, 4).ok().ok_or("refused")?;
+    let plan = align(alloc, &more, 8, 9, 4)?;
     assert_eq!(&rt; plan.rows().len(), 25_001);
     Ok(())
 }
@@ -159,7 +167,8 @@ fn is_partition(hist: &Hist, lowest: u8, threshold: u64, pixel: Pixel) -> bool
     hist.total_in(parent) > threshold
 }
 
-// The partitions of an order-2 histogram: all pixels of its orders are tried, and those that pass are put in order.
+// The partitions of an order-2 histogram: all pixels of its orders are tried, and those that pass are put in
+// order.
 fn listed(
     alloc: Global,
     hist: &Hist,
@@ -224,12 +233,10 @@ fn agrees(alloc: Global, hist: &Hist, lowest: u8, threshold: u64) -> Result<bool
 {
     let refusal = overfull(hist, threshold);
     if refusal.is_some() {
-        return Ok(refusal_of(alloc, hist, lowest, threshold) == refusal);
+        return Ok(refusal_of(alloc, hist, lowest, threshold)? == refusal);
     }
     let wanted = listed(alloc, hist, lowest, threshold)?;
-    let plan = align(alloc, hist, lowest, 2, threshold)
-        .ok()
-        .ok_or("refused")?;
+    let plan = align(alloc, hist, lowest, 2, threshold)?;
     let rows = plan.rows();
     Ok(rows.len() == wanted.len() && rows.iter().zip(&wanted).all(|(row, want)| *row == want.1))
 }

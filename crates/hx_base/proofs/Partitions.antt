@@ -1,10 +1,8 @@
 -- Partitions: no two share a position, each row is in one, and what a list of them rests on.
-use Rattle.std.proofs.Common.{◌≡◌, ◌≢◌, ◌∙◌, ◌+◌, ◌-◌, ◌*◌, ◌/◌, ◌^◌, ◌<◌, ◌≤◌, ◌==◌, ◌∷◌, [], ℕ, List, Bool, true, false, zero, suc, length, refl, sym, ap, arith, inl, inr, ◌⊎◌, ◌↔◌, get_or, subst}
-use Rattle.std.specs.List.{All, AllPairs, Contains, filter}
-use Rattle.std.proofs.lemmas.Bool.{cases_Bool, cases_eq, cases_lt, cases_order, eq-eqb, ne_eqb}
-use Rattle.std.proofs.lemmas.Bool.Decides.{Decides-eqb}
-use Rattle.std.proofs.lemmas.List.{get_or_default}
-use Rattle.std.proofs.lemmas.List.Elements.{All-contains, All-contains_itself}
+use Rattle.std.proofs.Common.{◌≡◌, ◌∙◌, ◌+◌, ◌-◌, ◌*◌, ◌/◌, ◌^◌, ◌<◌, ◌≤◌, ◌==◌, ◌∷◌, [], ℕ, List, Bool, zero, suc, length, refl, sym, ap, arith, inl, inr, ◌⊎◌, get_or, subst}
+use Rattle.std.specs.List.{AllPairs, Contains}
+use Rattle.std.proofs.lemmas.Bool.{cases_eq, cases_lt, cases_order, eq-eqb, ne_eqb}
+use Rattle.std.proofs.lemmas.List.Elements.{All-contains_itself}
 use Rattle.std.proofs.lemmas.Nat.{pow-add}
 use Rattle.std.proofs.Math.Nat.{div-div-eq-div-mul}
 use Rattle.hx_base.specs.declared.pixel.Pixel.{Pixel}
@@ -186,7 +184,7 @@ module _ {X : Type 0} (f : X → ℕ) where
       let in_xs = sup y (0, omega arith, refl) in
       elim (first_or_later y x ys in_ys.0 up_y in_ys.1 in_ys.2) [
         | inl e ↦ sym e
-        | inr less ↦ elim (first_or_later x y xs in_xs.0 up_x in_xs.1 in_xs.2) [ | inl e ↦ e | inr more ↦ absurd (omega arith) ]
+        | inr less ↦ elim (first_or_later x y xs in_xs.0 up_x in_xs.1 in_xs.2) [ inl e ↦ e | inr more ↦ absurd (omega arith) ]
       ]
 
   pub same_members : (xs ys : List X) → Up xs → Up ys → Within xs ys → Within ys xs → xs ≡ ys
@@ -230,7 +228,7 @@ module _ (count other : Pixel → ℕ) (lowest highest threshold : ℕ) (agree :
         not_higher = h.not_higher;
         some = omega (arith, same, h.some);
         most = omega (arith, same, h.most);
-        largest = elim h.largest [ | inl least ↦ inl least | inr more ↦ inr (omega (arith, above, more)) ];
+        largest = elim h.largest [ inl least ↦ inl least | inr more ↦ inr (omega (arith, above, more)) ];
       }
 
   overfull_over : highest ≤ 29 → (number : ℕ) → IsOverfull count highest threshold number → IsOverfull other highest threshold number

@@ -1,5 +1,6 @@
 pub mod Rows
 pub mod Pixels
+pub mod Touching
 pub mod FileWords
 pub mod Refusals
 pub mod Partitions

@@ -65,7 +65,11 @@ mod tests {
                 threshold,
                 margin_order,
             };
-            assert_eq!(rt; settings.fits(), fits, "{lowest} {highest} {threshold} {margin_order}");
+            assert_eq!(rt;
+                settings.fits(),
+                fits,
+                "{lowest} {highest} {threshold} {margin_order}"
+            );
         }
         Ok(())
     }

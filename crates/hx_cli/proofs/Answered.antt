@@ -1,40 +1,32 @@
 -- What an answer and its printing say of a run.
-use Rattle.std.proofs.Common.{◌≡◌, ◌≢◌, ◌<◌, ◌⊎◌, ℕ, zero, suc, List, [], ◌∷◌, Option, Some, None, IfSome, IsOkAnd, Result, Ok, Err, IfErr, IfOk, Vec, Global, refl, ap, arith, sym, inl, inr, length, ◌∙◌}
+use Rattle.std.proofs.Common.{◌≡◌, ◌≢◌, ◌<◌, ◌⊎◌, ℕ, List, [], ◌∷◌, Option, Some, None, IfSome, IsOkAnd, Result, Ok, Err, IfErr, IfOk, Vec, Global, refl, ap, arith, inl, inr, length}
 use Rattle.hx_base.specs.declared.refusal.Refusal.{Refusal}
 use Rattle.hx_base.specs.declared.refusal.Refusal.TheVariants as refusal
 use Rattle.hx_outside.specs.Faults.{Rose}
 use Rattle.hx_cli.specs.FirstRefusal.{IsExact, MayBeInstead, MayStandInPlace, Shows}
-use Rattle.hx_cli.specs.Runs.{Gains, IsCaused, IsCommandCause, NoneRose, Prints}
-use Rattle.hx_cli.specs.Words.{HasNoMeaning}
+use Rattle.hx_cli.specs.Runs.{Gains, IsCaused, IsCommandCause, IsOwnCause, NoneRose, Prints}
+use Rattle.hx_cli.specs.Words.{Around, Command, HasNoMeaning, Histogram, Plan}
+
+-- no command refuses its own words
+pub not_usage : (command : Command) → IsOwnCause command refusal.Usage → ⊥
+not_usage (Histogram order files) own = own
+not_usage (Plan lowest highest threshold files) own = own
+not_usage (Around order pixel) own = own
 
 module _ {S : Type 0} (told : S → Option (List ℕ)) (label : S → List ℕ) (faults : S → ℕ) (words : List (List ℕ)) (before now : List S) where
-  -- a refusal of the line keeps its cause, and the sink's has its own
-  caused-by : (r : Refusal) (sink_before sink_now : ℕ) → (r ≡ refusal.Usage → HasNoMeaning words) → (r ≡ refusal.SinkFault → Rose sink_before sink_now)
-      → (r ≢ refusal.Usage → IsCommandCause told label faults before now r) → IsCaused told label faults words before now sink_before sink_now r
-  caused-by refusal.Usage b n usage sink cause = usage refl
-  caused-by refusal.SinkFault b n usage sink cause = sink refl
-  caused-by (refusal.BadInput input row why) b n usage sink cause = cause (λ e. cc e)
-  caused-by (refusal.InputFault input) b n usage sink cause = cause (λ e. cc e)
-  caused-by refusal.Memory b n usage sink cause = tt
-  caused-by (refusal.Overfull p c) b n usage sink cause = cause (λ e. cc e)
-  caused-by (refusal.TooNarrow l r g) b n usage sink cause = cause (λ e. cc e)
-  caused-by refusal.StoreFault b n usage sink cause = cause (λ e. cc e)
-  caused-by (refusal.NoCatalogue s) b n usage sink cause = cause (λ e. cc e)
-  caused-by (refusal.OtherJob p k a) b n usage sink cause = cause (λ e. cc e)
-  caused-by (refusal.Damaged s f p) b n usage sink cause = cause (λ e. cc e)
-  caused-by (refusal.InputChanged i p k f) b n usage sink cause = cause (λ e. cc e)
-  caused-by (refusal.TooMany w f l) b n usage sink cause = cause (λ e. cc e)
-  caused-by refusal.NameTaken b n usage sink cause = cause (λ e. cc e)
+  caused-by : (r : Refusal) (sink_before sink_now : ℕ) → (r ≡ refusal.Usage → HasNoMeaning words) → (r ≢ refusal.Usage → IsCommandCause told label faults words before now r)
+      → IsCaused told label faults words before now sink_before sink_now r
+  caused-by refusal.Usage b n usage cause = inl (refl, usage refl)
+  caused-by _ b n usage cause = inr (inr (cause (λ e. cc e)))
 
   pub caused : (answered : Result (Vec ℕ Global) Refusal) (outcome : Option Refusal) (sink_before sink_now : ℕ) → Prints answered outcome
-      → (answered ≡ Err refusal.Usage → HasNoMeaning words) → IfErr answered (λ r. r ≢ refusal.Usage → IsCommandCause told label faults before now r)
+      → (answered ≡ Err refusal.Usage → HasNoMeaning words) → IfErr answered (λ r. r ≢ refusal.Usage → IsCommandCause told label faults words before now r)
       → (outcome ≡ Some refusal.SinkFault → Rose sink_before sink_now)
       → IfSome outcome (IsCaused told label faults words before now sink_before sink_now)
   caused (Ok text) None b n prints usage cause sink = tt
-  caused (Ok text) (Some refusal.SinkFault) b n prints usage cause sink = sink refl
+  caused (Ok text) (Some refusal.SinkFault) b n prints usage cause sink = inr (inl (refl, sink refl))
   caused (Ok text) (Some _) b n prints usage cause sink = absurd prints
-  caused (Err r) outcome b n prints usage cause sink =
-      rw prints (caused-by r b n (λ e. usage (ap Err e)) (λ e. sink (prints ∙ ap Some e)) cause)
+  caused (Err r) outcome b n prints usage cause sink = rw prints (caused-by r b n (λ e. usage (ap Err e)) cause)
 
   -- a list that has a place has an element
   element : (xs : List S) (i : ℕ) → i < length xs → S
@@ -44,8 +36,21 @@ module _ {S : Type 0} (told : S → Option (List ℕ)) (label : S → List ℕ) 
   -- a fault of an input that has no cause
   stands-alone : (r : Refusal) (b n : ℕ) → MayStandInPlace r → IsCaused told label faults words before now b n r → NoneRose faults before now → Some r ≡ Some refusal.Memory
   stands-alone refusal.Memory b n free cause still = refl
-  stands-alone (refusal.InputFault i) b n free cause still = let d = element before i cause.0 in absurd (still i d cause.0 (cause.1 d))
+  stands-alone (refusal.InputFault i) b n free (inl (e, _)) still = cc e
+  stands-alone (refusal.InputFault i) b n free (inr (inl (e, _))) still = cc e
+  stands-alone (refusal.InputFault i) b n free (inr (inr (command, means, inl cause))) still = let d = element before i cause.0 in absurd (still i d cause.0 (cause.1 d))
+  stands-alone (refusal.InputFault i) b n free (inr (inr (Histogram order files, means, inr own))) still = absurd own
+  stands-alone (refusal.InputFault i) b n free (inr (inr (Plan l h t files, means, inr own))) still = absurd own
+  stands-alone (refusal.InputFault i) b n free (inr (inr (Around k p, means, inr own))) still = absurd own
   stands-alone _ b n free cause still = absurd free
+
+  sink-alone : (b n : ℕ) → IsCaused told label faults words before now b n refusal.SinkFault → Rose b n
+  sink-alone b n (inl (e, _)) = cc e
+  sink-alone b n (inr (inl (_, rose))) = rose
+  sink-alone b n (inr (inr (command, means, inl cause))) = absurd cause
+  sink-alone b n (inr (inr (Histogram order files, means, inr own))) = absurd own
+  sink-alone b n (inr (inr (Plan l h t files, means, inr own))) = absurd own
+  sink-alone b n (inr (inr (Around k p, means, inr own))) = absurd own
 
   -- where no refusal comes first and no count rose, only want of memory is refused
   pub memory_alone : (outcome : Option Refusal) (b n : ℕ) (none : Type 0) → (outcome ≡ None) ⊎ MayBeInstead outcome none → IfSome outcome (IsCaused told label faults words before now b n)
@@ -53,7 +58,7 @@ module _ {S : Type 0} (told : S → Option (List ℕ)) (label : S → List ℕ) 
   memory_alone outcome b n none (inl done) cause still sink = inl done
   memory_alone None b n none (inr (inl free)) cause still sink = inl refl
   memory_alone (Some r) b n none (inr (inl free)) cause still sink = inr (stands-alone r b n free cause still)
-  memory_alone outcome b n none (inr (inr (failed, _))) cause still sink = absurd (sink (rw failed at cause))
+  memory_alone outcome b n none (inr (inr (failed, _))) cause still sink = absurd (sink (sink-alone b n (rw failed at cause)))
 
 module _ (IsFirst : Option Refusal → Type 0) where
   -- printing keeps what an answer shows of the first refusal

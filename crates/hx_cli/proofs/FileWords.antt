@@ -1,7 +1,7 @@
 -- Words that name inputs.
-use Rattle.std.proofs.Common.{◌≡◌, ◌==◌, ◌<◌, ◌∷◌, [], false, ℕ, List, All, String, Global, length, map, string_bytes, arith, subst}
+use Rattle.std.proofs.Common.{◌≡◌, ◌==◌, ◌<◌, ◌≤◌, ◌-◌, ◌∷◌, get_or, take, drop, ap, sym, [], false, ℕ, List, All, String, Global, length, map, string_bytes, arith, subst}
 use Rattle.std.proofs.Math.ListN.{get_or-map}
-use Rattle.std.proofs.lemmas.List.{length-map}
+use Rattle.std.proofs.lemmas.List.{length-map, take_rest}
 use Rattle.std.proofs.lemmas.List.Elements.{All-map}
 use Rattle.hx_cli.specs.Words.{AreFiles, IsCsvWord}
 
@@ -17,3 +17,9 @@ words_are words files = λ k d within. subst IsCsvWord (get_or-map text words k 
 pub some_word : {X : Type 0} (words : List X) → false ≡ (length words == 0) → 0 < length words
 some_word [] some = cc some
 some_word (w ∷ words) some = omega arith
+
+-- the first word of a line, and those behind it
+pub first_and_rest : (words : List (String Global)) (first : String Global) → 1 ≤ length words → first ≡ get_or words 0 first
+    → map text words ≡ string_bytes first ∷ map string_bytes (take (length words - 1) (drop 1 words))
+first_and_rest [] first some is = absurd (omega (arith, some))
+first_and_rest (w ∷ words) first some is = rw (take_rest (w ∷ words) 1) (ap (λ (x : String Global). string_bytes x ∷ map text words) (sym is))

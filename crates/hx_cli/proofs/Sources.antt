@@ -35,7 +35,8 @@ module _ {S : Type 0} (told : S → Option (List ℕ)) (label : S → List ℕ) 
       let within : i < length before = omega (arith, below, same.count) in
       ap label is ∙ (same.each i x within).name ∙ sym (get_or-map label before i x)
 
-get_or_any : {X : Type 0} (xs : List X) (i : ℕ) (d e : X) → i < length xs → get_or xs i d ≡ get_or xs i e
+-- the default is never read within a list
+pub get_or_any : {X : Type 0} (xs : List X) (i : ℕ) (d e : X) → i < length xs → get_or xs i d ≡ get_or xs i e
 get_or_any [] i d e below = absurd (omega (arith, below))
 get_or_any (x ∷ xs) zero d e below = refl
 get_or_any (x ∷ xs) (suc i) d e below = get_or_any xs i d e (omega (arith, below))

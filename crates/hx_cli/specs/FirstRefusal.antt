@@ -1,22 +1,14 @@
 -- Which refusal comes first, by the inputs' names and bytes.
-use Rattle.std.specs.Prelude.{◌≡◌, ◌+◌, ◌++◌, ◌∷◌, ◌⊎◌, ℕ, List, [], length, nat_lt, if◌then◌else◌, Option, Some, None, IsSomeAnd, Result, Ok, Err}
+use Rattle.std.specs.Prelude.{◌≡◌, ◌+◌, ◌++◌, ◌∷◌, ◌⊎◌, ℕ, List, [], length, Option, Some, None, IsSomeAnd, Result, Ok, Err}
 use Rattle.std.specs.Option.{option_or}
 use Rattle.hx_base.specs.declared.refusal.Refusal.{Refusal}
 use Rattle.hx_base.specs.declared.refusal.Refusal.TheVariants as refusal
 use Rattle.hx_base.specs.declared.row.Row.{Row}
+use Rattle.hx_base.specs.Pixels.{count_in}
 use Rattle.hx_rows.specs.Reading.{rows_of}
-use Rattle.hx_cli.specs.Words.{Command, Histogram}
-
--- at most so many inputs, and so many bytes in each
-abbrev pub most_inputs : ℕ
-most_inputs = 10000
-
-abbrev pub most_bytes : ℕ
-most_bytes = 67108864
-
--- a quantity that is above its limit
-abbrev pub above : ℕ → ℕ → ℕ → Option Refusal
-above what limit found = if nat_lt limit found then Some (refusal.TooMany what found limit) else None
+use Rattle.hx_cli.specs.Limits.{above, most_bytes, most_inputs}
+use Rattle.hx_cli.specs.Plans.{IsCutRefusal}
+use Rattle.hx_cli.specs.Words.{Around, Command, Histogram, Plan}
 
 -- the first refusal is that one, or where there is none the first of the others
 abbrev pub OrElse : Option Refusal → (Option Refusal → Type 0) → Option Refusal → Type 0
@@ -42,9 +34,22 @@ abbrev pub bad_input : ℕ → List (List ℕ) → List (List ℕ) → Option Re
 bad_input number (name ∷ names) (bytes ∷ more) = option_or (fault_of number (rows_of name bytes)) (bad_input (number + 1) names more)
 bad_input number _ _ = None
 
+-- the rows of all inputs, one input after another
+abbrev pub AreRows : List (List ℕ) → List (List ℕ) → List Row → Type 0
+AreRows [] [] rows = rows ≡ []
+AreRows (name ∷ names) (bytes ∷ more) rows = (first : List Row) × (rest : List Row) × (rows_of name bytes ≡ Ok first) × AreRows names more rest × (rows ≡ first ++ rest)
+AreRows [] (bytes ∷ more) rows = ⊥
+AreRows (name ∷ names) [] rows = ⊥
+
+-- the first refusal of a plan of inputs without a fault
+abbrev pub IsPlanRefusal : ℕ → ℕ → ℕ → List (List ℕ) → List (List ℕ) → Option Refusal → Type 0
+IsPlanRefusal lowest highest threshold names bytes first = (rows : List Row) × AreRows names bytes rows × IsCutRefusal (λ pixel. count_in pixel rows) lowest highest threshold first
+
 -- the first refusal of inputs that are not too many nor too long, or that there is none
 abbrev pub IsLaterRefusal : Command → List (List ℕ) → List (List ℕ) → Option Refusal → Type 0
 IsLaterRefusal (Histogram order files) names bytes first = first ≡ bad_input 0 names bytes
+IsLaterRefusal (Plan lowest highest threshold files) names bytes first = OrElse (bad_input 0 names bytes) (IsPlanRefusal lowest highest threshold names bytes) first
+IsLaterRefusal (Around order pixel) names bytes first = first ≡ None
 
 -- the first refusal of a command over inputs with these names and bytes: too many inputs; one that is too long; then
 -- what the command itself refuses; or that there is none
@@ -71,10 +76,3 @@ MayBeInstead answer none = IsSomeAnd answer MayStandInPlace ⊎ ((answer ≡ Som
 pub record IsExact (answer : Option Refusal) (IsFirst : Option Refusal → Type 0) : Type 0 where
   pub only : IsFirst answer ⊎ MayBeInstead answer (IsFirst None)
   pub always : (first : Option Refusal) → IsFirst first → (answer ≡ first) ⊎ MayBeInstead answer (first ≡ None)
-
--- the rows of all inputs, one input after another
-abbrev pub AreRows : List (List ℕ) → List (List ℕ) → List Row → Type 0
-AreRows [] [] rows = rows ≡ []
-AreRows (name ∷ names) (bytes ∷ more) rows = (first : List Row) × (rest : List Row) × (rows_of name bytes ≡ Ok first) × AreRows names more rest × (rows ≡ first ++ rest)
-AreRows [] (bytes ∷ more) rows = ⊥
-AreRows (name ∷ names) [] rows = ⊥

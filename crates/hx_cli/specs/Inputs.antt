@@ -4,7 +4,7 @@ use Rattle.hx_base.specs.declared.refusal.Refusal.{Refusal}
 use Rattle.hx_base.specs.declared.refusal.Refusal.TheVariants as refusal
 use Rattle.hx_outside.specs.Faults.{Rose}
 use Rattle.hx_rows.specs.Reading.{rows_of}
-use Rattle.hx_cli.specs.FirstRefusal.{most_bytes}
+use Rattle.hx_cli.specs.Limits.{most_bytes}
 use Rattle.hx_cli.specs.declared.input.ReadFault.{ReadFault}
 use Rattle.hx_cli.specs.declared.input.ReadFault.TheVariants as fault
 

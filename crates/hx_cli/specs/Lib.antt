@@ -1,7 +1,11 @@
 pub mod Histograms
 pub mod Words
+pub mod Options
 pub mod Runs
 pub mod FirstRefusal
 pub mod Requests
 pub mod Inputs
 pub mod Texts
+pub mod Limits
+pub mod Plans
+pub mod Neighbours

@@ -7,9 +7,12 @@ use Rattle.hx_base.specs.declared.row.Row.{Row}
 use Rattle.hx_outside.specs.Faults.{Rose}
 use Rattle.hx_outside.specs.Sources.{SameSource}
 use Rattle.hx_rows.specs.Reading.{rows_of}
-use Rattle.hx_cli.specs.FirstRefusal.{AreRows, most_bytes, most_inputs}
+use Rattle.hx_cli.specs.FirstRefusal.{AreRows}
+use Rattle.hx_cli.specs.Limits.{most_bytes, most_inputs}
+use Rattle.hx_cli.specs.Neighbours.{IsAroundText}
+use Rattle.hx_cli.specs.Plans.{IsCutCause, IsPlanText}
 use Rattle.hx_cli.specs.Histograms.{histogram_text}
-use Rattle.hx_cli.specs.Words.{Command, Histogram, Means, HasNoMeaning}
+use Rattle.hx_cli.specs.Words.{Around, Command, Histogram, Means, HasNoMeaning, Plan}
 
 -- the same sources in the same order: each tells the same bytes under the same name, and no count fell
 pub record SameSources {S : Type 0} (told : S → Option (List ℕ)) (label : S → List ℕ) (faults : S → ℕ) (before now : List S) : Type 0 where
@@ -29,29 +32,40 @@ abbrev pub IsTooMany : {S : Type 0} → (S → Option (List ℕ)) → List S →
 IsTooMany {S} told inputs what found limit =
     (limit < found) × (((what ≡ 1) × (limit ≡ most_inputs) × (found ≡ length inputs)) ⊎ ((what ≡ 2) × (limit ≡ most_bytes) × HasLength told inputs found))
 
--- the cause of a refusal of a command that is understood, by its inputs before and after
-abbrev pub IsCommandCause : {S : Type 0} → (S → Option (List ℕ)) → (S → List ℕ) → (S → ℕ) → List S → List S → Refusal → Type 0
-IsCommandCause {S} told label faults before now (refusal.BadInput input row why) =
+-- the cause of a refusal of inputs, by the inputs before and after
+abbrev pub IsInputsCause : {S : Type 0} → (S → Option (List ℕ)) → (S → List ℕ) → (S → ℕ) → List S → List S → Refusal → Type 0
+IsInputsCause {S} told label faults before now (refusal.BadInput input row why) =
     (input < length before) × ((d : S) → IfSome (told (slice_index_or before input d)) (λ bytes. rows_of (label (slice_index_or before input d)) bytes ≡ Err (row, why)))
-IsCommandCause {S} told label faults before now (refusal.InputFault input) =
+IsInputsCause {S} told label faults before now (refusal.InputFault input) =
     (input < length before) × ((d : S) → Rose (faults (slice_index_or before input d)) (faults (slice_index_or now input d)))
-IsCommandCause told label faults before now (refusal.TooMany what found limit) = IsTooMany told before what found limit
-IsCommandCause told label faults before now refusal.Memory = Unit {0}
-IsCommandCause told label faults before now _ = ⊥
+IsInputsCause told label faults before now (refusal.TooMany what found limit) = IsTooMany told before what found limit
+IsInputsCause told label faults before now refusal.Memory = Unit {0}
+IsInputsCause told label faults before now _ = ⊥
 
 -- no source has failed
 abbrev pub NoneRose : {S : Type 0} → (S → ℕ) → List S → List S → Type 0
 NoneRose {S} faults before now = (i : ℕ) (d : S) → i < length before → Rose (faults (slice_index_or before i d)) (faults (slice_index_or now i d)) → ⊥
 
--- the cause of each refusal of a command line: its words, the inputs before and after, the sink's count before and after
+-- the cause of a refusal that is a command's own
+abbrev pub IsOwnCause : Command → Refusal → Type 0
+IsOwnCause (Histogram order files) r = ⊥
+IsOwnCause (Plan lowest highest threshold files) r = IsCutCause threshold r
+IsOwnCause (Around order pixel) r = ⊥
+
+-- the cause of a refusal of a line that has a meaning
+abbrev pub IsCommandCause : {S : Type 0} → (S → Option (List ℕ)) → (S → List ℕ) → (S → ℕ) → List (List ℕ) → List S → List S → Refusal → Type 0
+IsCommandCause told label faults words before now r = (command : Command) × Means words command × (IsInputsCause told label faults before now r ⊎ IsOwnCause command r)
+
+-- the cause of each refusal: the words have no meaning; the sink's count rose; or that of the command
 abbrev pub IsCaused : {S : Type 0} → (S → Option (List ℕ)) → (S → List ℕ) → (S → ℕ) → List (List ℕ) → List S → List S → ℕ → ℕ → Refusal → Type 0
-IsCaused told label faults words before now sink_before sink_now refusal.Usage = HasNoMeaning words
-IsCaused told label faults words before now sink_before sink_now refusal.SinkFault = Rose sink_before sink_now
-IsCaused told label faults words before now sink_before sink_now r = IsCommandCause told label faults before now r
+IsCaused told label faults words before now sink_before sink_now r =
+    ((r ≡ refusal.Usage) × HasNoMeaning words) ⊎ (((r ≡ refusal.SinkFault) × Rose sink_before sink_now) ⊎ IsCommandCause told label faults words before now r)
 
 -- the text of a command over inputs with these names and bytes
 abbrev pub IsTextOf : Command → List (List ℕ) → List (List ℕ) → List ℕ → Type 0
 IsTextOf (Histogram order files) names bytes text = (rows : List Row) × AreRows names bytes rows × (text ≡ histogram_text order rows)
+IsTextOf (Plan lowest highest threshold files) names bytes text = (rows : List Row) × AreRows names bytes rows × IsPlanText lowest highest threshold rows text
+IsTextOf (Around order pixel) names bytes text = IsAroundText order pixel text
 
 -- the same of the words of a command line
 abbrev pub IsOutput : List (List ℕ) → List (List ℕ) → List (List ℕ) → List ℕ → Type 0

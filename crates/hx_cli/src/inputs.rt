@@ -9,9 +9,10 @@ ghost use Rattle.hx_base.specs.declared.row.Row.{Row};
 ghost use Rattle.hx_hist.specs.Histograms.{count_at, total_of};
 ghost use Rattle.hx_outside.specs.Sources.{SameSource};
 ghost use Rattle.hx_rows.specs.Reading.{rows_of};
-ghost use Rattle.hx_cli.specs.FirstRefusal.{AreRows, Shows, above, bad_input, fault_of, most_inputs, most_bytes, too_long, too_many_inputs};
+ghost use Rattle.hx_cli.specs.FirstRefusal.{AreRows, Shows, bad_input, fault_of, too_long, too_many_inputs};
+ghost use Rattle.hx_cli.specs.Limits.{above, most_bytes, most_inputs};
 ghost use Rattle.hx_cli.specs.Inputs.{IsInputCause};
-ghost use Rattle.hx_cli.specs.Runs.{IsCommandCause, SameSources, Tell};
+ghost use Rattle.hx_cli.specs.Runs.{IsInputsCause, SameSources, Tell};
 ghost use Rattle.hx_cli.specs.Words.{IsCsvWord};
 
 use crate::counting::count_rows;
@@ -56,7 +57,7 @@ fn check_lengths<Src: Source>(inputs: &mut Vec<Src>) -> Result<(), Refusal>
         Shows (λ first. first ≡ too_long bytes) result }
     ensures same { SameSources Src.told Src.label Src.faults inputs.old.items inputs.new.items }
     ensures cause { IfErr result
-        (IsCommandCause Src.told Src.label Src.faults inputs.old.items inputs.new.items) }
+        (IsInputsCause Src.told Src.label Src.faults inputs.old.items inputs.new.items) }
 {
     for number in 0..inputs.len() {
         check_length(&mut inputs[number], number as u32)?;
@@ -73,7 +74,7 @@ pub fn check_inputs<Src: Source>(inputs: &mut Vec<Src>) -> Result<(), Refusal>
         Shows (λ first. first ≡ option_or (too_many_inputs (length inputs.old.items)) (too_long bytes)) result }
     ensures same { SameSources Src.told Src.label Src.faults inputs.old.items inputs.new.items }
     ensures cause { IfErr result
-        (IsCommandCause Src.told Src.label Src.faults inputs.old.items inputs.new.items) }
+        (IsInputsCause Src.told Src.label Src.faults inputs.old.items inputs.new.items) }
 {
     check_limit(1, inputs.len() as u64, MOST_INPUTS)?;
     check_lengths(inputs)
@@ -128,7 +129,7 @@ pub fn count_inputs<Src: Source>(
         Shows (λ first. first ≡ bad_input 0 names bytes) result }
     ensures same { SameSources Src.told Src.label Src.faults inputs.old.items inputs.new.items }
     ensures cause { IfErr result
-        (IsCommandCause Src.told Src.label Src.faults inputs.old.items inputs.new.items) }
+        (IsInputsCause Src.told Src.label Src.faults inputs.old.items inputs.new.items) }
 {
     let mut counts = Hist::new(alloc, order);
     for number in 0..inputs.len() {

@@ -3,13 +3,14 @@ ghost use Rattle.std.specs.Prelude.{◌≡◌, ◌≢◌, ◌<◌, ◌≤◌, �
 ghost use Rattle.hx_base.specs.Refusals.{status_after};
 ghost use Rattle.hx_base.specs.declared.refusal.Refusal.TheVariants.{Memory, SinkFault, TooMany, Usage};
 ghost use Rattle.hx_outside.specs.Faults.{Rose};
-ghost use Rattle.hx_cli.specs.FirstRefusal.{IsExact, IsFirstRefusal, IsLaterRefusal, Shows, bad_input, most_inputs};
-ghost use Rattle.hx_cli.specs.Requests.{IsHistogramRequest, IsSound, command_of};
-ghost use Rattle.hx_cli.specs.Runs.{Gains, IsCaused, IsCommandCause, IsOutput, IsTextOf, NoneRose, Prints, SameSources, Tell};
-ghost use Rattle.hx_cli.specs.Words.{AreInputNames, Command, HasNoMeaning, Histogram, Means};
+ghost use Rattle.hx_cli.specs.FirstRefusal.{IsExact, IsFirstRefusal, Shows};
+ghost use Rattle.hx_cli.specs.Limits.{most_inputs};
+ghost use Rattle.hx_cli.specs.Requests.{IsSound, command_of};
+ghost use Rattle.hx_cli.specs.Runs.{Gains, IsCaused, IsCommandCause, IsInputsCause, IsOutput, IsOwnCause, IsTextOf, NoneRose, Prints, SameSources, Tell};
+ghost use Rattle.hx_cli.specs.Words.{AreInputNames, Command, HasNoMeaning, Means};
 
-use crate::inputs::{check_inputs, count_inputs};
-use crate::lines::lines_of;
+use crate::commands::act;
+use crate::inputs::check_inputs;
 use crate::words::{Action, request_of};
 use hx_base::Refusal;
 use hx_outside::{Sink, Source, Store};
@@ -24,54 +25,6 @@ pub struct Ran<Src, S> {
     /// The inputs in their order.
     pub inputs: Vec<Src>,
     pub store: S,
-}
-
-// The text of a histogram of the inputs' rows.
-fn histogram<Src: Source>(
-    alloc: Global,
-    order: u8,
-    inputs: &mut Vec<Src>,
-) -> Result<Vec<u8>, Refusal>
-    requires request { IsHistogramRequest order (map Src.label inputs.old.items) }
-    requires few { length inputs.old.items ≤ most_inputs }
-    ensures text { let names = map Src.label inputs.old.items in
-        (bytes : List (List ℕ)) → Tell Src.told inputs.old.items bytes →
-        IfOk result (λ text. IsTextOf (Histogram order names) names bytes text.items) }
-    ensures first { let names = map Src.label inputs.old.items in
-        (bytes : List (List ℕ)) → Tell Src.told inputs.old.items bytes →
-        Shows (λ first. first ≡ bad_input 0 names bytes) result }
-    ensures same { SameSources Src.told Src.label Src.faults inputs.old.items inputs.new.items }
-    ensures cause { IfErr result
-        (IsCommandCause Src.told Src.label Src.faults inputs.old.items inputs.new.items) }
-{
-    let counts = count_inputs(alloc, order, inputs)?;
-    match lines_of(alloc, &counts) {
-        Ok(text) => Ok(text),
-        Err(_) => Err(Refusal::Memory),
-    }
-}
-
-// The text that an action gives over inputs that keep to the limits.
-fn act<Src: Source>(
-    alloc: Global,
-    action: Action,
-    inputs: &mut Vec<Src>,
-) -> Result<Vec<u8>, Refusal>
-    requires sound { IsSound action (map Src.label inputs.old.items) }
-    requires few { length inputs.old.items ≤ most_inputs }
-    ensures text { let names = map Src.label inputs.old.items in
-        (bytes : List (List ℕ)) → Tell Src.told inputs.old.items bytes →
-        IfOk result (λ text. IsTextOf (command_of action names) names bytes text.items) }
-    ensures first { let names = map Src.label inputs.old.items in
-        (bytes : List (List ℕ)) → Tell Src.told inputs.old.items bytes →
-        Shows (IsLaterRefusal (command_of action names) names bytes) result }
-    ensures same { SameSources Src.told Src.label Src.faults inputs.old.items inputs.new.items }
-    ensures cause { IfErr result
-        (IsCommandCause Src.told Src.label Src.faults inputs.old.items inputs.new.items) }
-{
-    match action {
-        Action::Histogram { order } => histogram(alloc, order, inputs),
-    }
 }
 
 // The text that an action gives.
@@ -90,8 +43,9 @@ fn answer<Src: Source>(
     ensures many { most_inputs < length inputs.old.items →
         result ≡ Err (TooMany 1 (length inputs.old.items) most_inputs) }
     ensures same { SameSources Src.told Src.label Src.faults inputs.old.items inputs.new.items }
-    ensures cause { IfErr result
-        (IsCommandCause Src.told Src.label Src.faults inputs.old.items inputs.new.items) }
+    ensures cause { let names = map Src.label inputs.old.items in IfErr result (λ r.
+        IsInputsCause Src.told Src.label Src.faults inputs.old.items inputs.new.items r ⊎
+        IsOwnCause (command_of action names) r) }
 {
     check_inputs(inputs)?;
     act(alloc, action, inputs)
@@ -116,7 +70,7 @@ fn answer_line<Src: Source>(
         result ≡ Err (TooMany 1 (length inputs.old.items) most_inputs) }
     ensures same { SameSources Src.told Src.label Src.faults inputs.old.items inputs.new.items }
     ensures cause { IfErr result (λ r. r ≢ Usage →
-        IsCommandCause Src.told Src.label Src.faults inputs.old.items inputs.new.items r) }
+        IsCommandCause Src.told Src.label Src.faults (map string_bytes words.now) inputs.old.items inputs.new.items r) }
 {
     match request_of(words) {
         None => Err(Refusal::Usage),

@@ -1,5 +1,5 @@
 -- A histogram of rows has in each pixel as many as the rows do.
-use Rattle.std.proofs.Common.{◌≡◌, ◌∙◌, ◌+◌, ◌-◌, ◌*◌, ◌/◌, ◌^◌, ◌<◌, ◌≤◌, ◌∷◌, ◌==◌, [], ℕ, List, Bool, true, false, zero, suc, length, refl, sym, ap, arith, inl, inr, ◌⊎◌, if◌then◌else◌}
+use Rattle.std.proofs.Common.{◌≡◌, ◌∙◌, ◌+◌, ◌-◌, ◌*◌, ◌/◌, ◌^◌, ◌<◌, ◌≤◌, ◌∷◌, ◌==◌, [], ℕ, List, Bool, zero, suc, length, refl, sym, ap, arith, inl, inr, ◌⊎◌, if◌then◌else◌}
 use Rattle.std.specs.List.{filter, sum_by}
 use Rattle.std.proofs.lemmas.Bool.{cases_eq, cases_lt, eq-eqb, ne_eqb}
 use Rattle.std.proofs.lemmas.List.Sums.{sum_by-cons}
@@ -40,8 +40,8 @@ only_other x c p ne = rw (ne_eqb x p ne) refl
 over_out : (x c a n : ℕ) → (x < a) ⊎ (a + n ≤ x) → over (only x c) a n ≡ 0
 over_out x c a zero out = refl
 over_out x c a (suc n) out =
-    let rest = over_out x c a n (elim out [ | inl low ↦ inl low | inr high ↦ inr (omega arith) ]) in
-    let last = only_other x c (a + n) (λ e. elim out [ | inl low ↦ absurd (omega arith) | inr high ↦ absurd (omega arith) ]) in
+    let rest = over_out x c a n (elim out [ inl low ↦ inl low | inr high ↦ inr (omega arith) ]) in
+    let last = only_other x c (a + n) (λ e. elim out [ inl low ↦ absurd (omega arith) | inr high ↦ absurd (omega arith) ]) in
     omega (arith, rest, last)
 
 over_in : (x c a n : ℕ) → a ≤ x → x < a + n → over (only x c) a n ≡ c
@@ -112,7 +112,7 @@ row_groups order pixel rows within le =
     let key = λ (row : Row). pixel_of order row.hp in
     let d = 4 ^ (order - pixel.order) in
     let up = same_filter (λ (row : Row). pixel_of pixel.order row.hp == pixel.number) (λ (row : Row). key row / d == pixel.number) rows
-        (λ row. ap (λ (n : ℕ). n == pixel.number) (sym (up_again 29 order pixel.order row.hp le within))) in
+    (λ row. ap (λ (n : ℕ). n == pixel.number) (sym (up_again 29 order pixel.order row.hp le within))) in
     ap length up ∙ sym (ones (filter (λ (row : Row). key row / d == pixel.number) rows))
     ∙ grouped (λ (row : Row). 1) key pixel.number d (four_pos (order - pixel.order)) rows
     ∙ over_same (λ p. sum_by (λ (row : Row). 1) (filter (λ (row : Row). key row == p) rows)) (λ p. count_in (record { order = order; number = p }) rows) (pixel.number * d) d

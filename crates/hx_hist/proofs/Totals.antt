@@ -1,7 +1,7 @@
 -- Totals of pixels over parts of a list of pairs.
-use Rattle.std.proofs.Common.{◌≡◌, ◌∙◌, ◌+◌, ◌-◌, ◌*◌, ◌/◌, ◌^◌, ◌<◌, ◌≤◌, ◌∷◌, ◌++◌, ◌==◌, [], ℕ, List, Bool, true, false, zero, suc, length, refl, sym, ap, arith, inl, inr, get_or}
+use Rattle.std.proofs.Common.{◌≡◌, ◌∙◌, ◌+◌, ◌-◌, ◌/◌, ◌^◌, ◌<◌, ◌≤◌, ◌∷◌, ◌++◌, ◌==◌, [], ℕ, List, Bool, true, zero, suc, length, refl, sym, ap, arith, inl, inr, get_or}
 use Rattle.std.specs.List.{All, AllPairs, filter, sum_by}
-use Rattle.std.proofs.lemmas.Bool.{cases_Bool, cases_order, eq-eqb, ne_eqb}
+use Rattle.std.proofs.lemmas.Bool.{cases_Bool, eq-eqb, ne_eqb}
 use Rattle.std.proofs.lemmas.Bool.Decides.{Decides-eqb}
 use Rattle.std.proofs.lemmas.List.Elements.{filter-append}
 use Rattle.std.proofs.lemmas.List.Sums.{sum_by-append, sum_by-cons}
@@ -43,7 +43,7 @@ fewer p q (x ∷ xs) wider =
     let two = sum_by-cons count_of x (filter q xs) in
     elim (cases_Bool (p x)) [
       | inl is ↦ rw (is, wider x is) (omega arith)
-      | inr not ↦ elim (cases_Bool (q x)) [ | inl is2 ↦ rw (not, is2) (omega arith) | inr not2 ↦ rw (not, not2) rest ]
+      | inr not ↦ elim (cases_Bool (q x)) [ inl is2 ↦ rw (not, is2) (omega arith) | inr not2 ↦ rw (not, not2) rest ]
     ]
 
 pub total_in_most : (pixel : Pixel) (order : ℕ) (xs : List Pair) → total_in pixel order xs ≤ total_of xs

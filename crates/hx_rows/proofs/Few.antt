@@ -1,5 +1,5 @@
 -- An input has at most as many rows as may be numbered.
-use Rattle.std.proofs.Common.{IfOk, Vec, Global, ◌≡◌, ◌+◌, ◌<◌, ◌≤◌, ◌∷◌, [], ℕ, List, Result, Ok, Err, arith, length, nat_lt, refl, suc, true, inl, inr}
+use Rattle.std.proofs.Common.{IfOk, Vec, Global, ◌≡◌, ◌+◌, ◌≤◌, ◌∷◌, [], ℕ, List, Result, Ok, Err, arith, length, nat_lt, refl, suc, true, inl, inr}
 use Rattle.std.proofs.lemmas.Bool.{cases_order, lt-ltb}
 use Rattle.hx_base.specs.declared.row.Row.{Row}
 use Rattle.hx_rows.specs.Csv.{◌>>=◌, Columns, at_row, collected, columns_of, csv_rows, numbered_row, outcomes, table_rows, records_of}

@@ -1,6 +1,3 @@
-use Rattle.std.proofs.Common.{◌∙◌, ap, subst, List, sym}
-use Rattle.std.specs.List.{find}
-use Rattle.hx_hist.specs.declared.hist.Pair.{Pair}
 use Rattle.hx_align.proofs.Overfull.{found_count, found_first, found_none, found_nothing}
 use Rattle.hx_align.proofs.aligning.first_overfull.Goals as goal
 

@@ -1,4 +1,4 @@
-use Rattle.std.proofs.Common.{◌≡◌, ◌≤◌}
+use Rattle.std.proofs.Common.{◌≡◌}
 use Rattle.hx_hist.specs.Histograms.{total_of}
 use Rattle.hx_align.proofs.tests.row_in_each.Given as goal
 

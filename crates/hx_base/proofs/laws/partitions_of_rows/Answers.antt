@@ -14,7 +14,7 @@ fewer p q (row ∷ rows) wider =
     let rest = fewer p q rows wider in
     elim (cases_Bool (p row)) [
       | inl is ↦ rw (is, wider row is) (omega arith)
-      | inr not ↦ elim (cases_Bool (q row)) [ | inl is2 ↦ rw (not, is2) (omega arith) | inr not2 ↦ rw (not, not2) rest ]
+      | inr not ↦ elim (cases_Bool (q row)) [ inl is2 ↦ rw (not, is2) (omega arith) | inr not2 ↦ rw (not, not2) rest ]
     ]
 
 -- a row that passes is counted
@@ -23,7 +23,7 @@ counted p [] k d within is = absurd (omega (arith, within))
 counted p (row ∷ rows) zero d within is = rw is (omega arith)
 counted p (row ∷ rows) (suc k) d within is =
     let rest = counted p rows k d (omega (arith, within)) is in
-    elim (cases_Bool (p row)) [ | inl here ↦ rw here (omega arith) | inr not ↦ rw not rest ]
+    elim (cases_Bool (p row)) [ inl here ↦ rw here (omega arith) | inr not ↦ rw not rest ]
 
 test : Pixel → Row → Bool
 test pixel row = pixel_of pixel.order row.hp == pixel.number

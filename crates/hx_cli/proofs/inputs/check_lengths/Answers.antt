@@ -1,7 +1,6 @@
 use Rattle.std.proofs.Common.{Err, rules, ◌≡◌, ◌<◌, ◌∙◌, List, ℕ, arith, length}
 use Rattle.hx_cli.proofs.FirstRefusals.{long_next, passed_here, refused_here}
 use Rattle.hx_cli.proofs.Sources.{same_next, tell_length, told_here}
-use Rattle.hx_cli.specs.Runs.{Tell}
 use Rattle.hx_cli.proofs.inputs.check_lengths.Goals as goal
 
 pub returns-in_err-check_length-clause-first : goal.returns-in_err-check_length-clause-first

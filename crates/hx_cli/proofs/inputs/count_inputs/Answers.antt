@@ -1,6 +1,5 @@
-use Rattle.std.proofs.Common.{All, Err, rules, ◌≡◌, ◌<◌, ◌++◌, ◌∙◌, List, ℕ, ap, arith, get_or, length, map, set, sym, take}
-use Rattle.std.proofs.lemmas.List.{length-map, take_more}
-use Rattle.hx_base.specs.declared.row.Row.{Row}
+use Rattle.std.proofs.Common.{All, Err, rules, ◌≡◌, ◌<◌, ◌++◌, ◌∙◌, List, ℕ, arith, length, map}
+use Rattle.std.proofs.lemmas.List.{length-map}
 use Rattle.hx_cli.proofs.FirstRefusals.{bad_next, passed_here, refused_here, rows_next}
 use Rattle.hx_cli.proofs.HistCounts.{count_more}
 use Rattle.hx_cli.proofs.Sources.{label_here, of_name, same_names, same_next, tell_length, told_here}

@@ -1,10 +1,12 @@
-use Rattle.std.proofs.Common.{◌≡◌, Err, List, map, string_bytes, subst, ℕ}
-use Rattle.std.proofs.lemmas.Result.{IfErr-at_err, IfOk-weaker}
+use Rattle.std.proofs.Common.{◌≡◌, ◌≢◌, ◌⊎◌, inl, inr, Err, List, map, string_bytes, subst, ℕ}
+use Rattle.std.proofs.lemmas.Result.{IfErr-at_err, IfErr-weaker, IfOk-weaker}
 use Rattle.hx_base.specs.declared.refusal.Refusal.TheVariants.{Usage}
+use Rattle.hx_base.specs.declared.refusal.Refusal.{Refusal}
+use Rattle.hx_cli.proofs.Answered.{not_usage}
 use Rattle.hx_cli.proofs.Requests.{one_meaning, over_inputs}
 use Rattle.hx_cli.specs.FirstRefusal.{IsFirstRefusal, Shows}
 use Rattle.hx_cli.specs.Requests.{command_of}
-use Rattle.hx_cli.specs.Runs.{IsCommandCause, IsOutput, IsTextOf}
+use Rattle.hx_cli.specs.Runs.{IsCommandCause, IsInputsCause, IsOutput, IsOwnCause, IsTextOf}
 use Rattle.hx_cli.specs.Words.{Command, HasNoMeaning}
 use Rattle.hx_cli.proofs.run.answer_line.Goals as goal
 
@@ -23,10 +25,20 @@ pub returns-in-Some-clause-usage : goal.returns-in-Some-clause-usage
 returns-in-Some-clause-usage g c =
     let words = map string_bytes c.args.words.now in
     let names = map g.Src.Source.label c.args.inputs.now.items in
-    let cause = IsCommandCause g.Src.Source.told g.Src.Source.label g.Src.Source.faults c.args.inputs.now.items c.answer.new.inputs.items in (
-      λ (e : c.answer.result ≡ Err Usage). absurd (IfErr-at_err cause e c.answer.ensures.cause),
-      λ (none : HasNoMeaning words). absurd (none (command_of c.in-Some.request.action names) (over_inputs words names c.in-Some.request c.in-Some.ensures c.requires).0),
+    let command = command_of c.in-Some.request.action names in
+    let Cause : Refusal → Type 0 = λ r. IsInputsCause g.Src.Source.told g.Src.Source.label g.Src.Source.faults c.args.inputs.now.items c.answer.new.inputs.items r ⊎ IsOwnCause command r in (
+      λ (e : c.answer.result ≡ Err Usage). absurd (elim (IfErr-at_err Cause e c.answer.ensures.cause) [ inl inputs ↦ inputs | inr own ↦ not_usage command own ]),
+      λ (none : HasNoMeaning words). absurd (none command (over_inputs words names c.in-Some.request c.in-Some.ensures c.requires).0),
     )
+
+pub returns-in-Some-clause-cause : goal.returns-in-Some-clause-cause
+returns-in-Some-clause-cause g c =
+    let words = map string_bytes c.args.words.now in
+    let names = map g.Src.Source.label c.args.inputs.now.items in
+    let command = command_of c.in-Some.request.action names in
+    let inputs = IsInputsCause g.Src.Source.told g.Src.Source.label g.Src.Source.faults c.args.inputs.now.items c.answer.new.inputs.items in
+    IfErr-weaker c.answer.result (λ r. inputs r ⊎ IsOwnCause command r) (λ r. r ≢ Usage → IsCommandCause g.Src.Source.told g.Src.Source.label g.Src.Source.faults words c.args.inputs.now.items c.answer.new.inputs.items r)
+    (λ r cause _. (command, (over_inputs words names c.in-Some.request c.in-Some.ensures c.requires).0, cause)) c.answer.ensures.cause
 
 pub returns-in-Some-clause-first : goal.returns-in-Some-clause-first
 returns-in-Some-clause-first g c = λ (bytes : List (List ℕ)). λ (command : Command). λ tell. λ means.

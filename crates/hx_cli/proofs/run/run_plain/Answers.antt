@@ -1,5 +1,4 @@
-use Rattle.std.proofs.Common.{List, None, Option, map, string_bytes, ℕ}
-use Rattle.hx_base.specs.declared.refusal.Refusal.{Refusal}
+use Rattle.std.proofs.Common.{List, None, map, string_bytes, ℕ}
 use Rattle.hx_cli.proofs.Answered.{caused, exactly, gained, memory_alone}
 use Rattle.hx_cli.proofs.FirstRefusals.{one_first}
 use Rattle.hx_cli.specs.FirstRefusal.{IsFirstRefusal}
