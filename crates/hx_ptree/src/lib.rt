@@ -1,0 +1,11 @@
+//! The list of partitions as a search: the partition that holds a position, and those that overlap a pixel.
+#![tactic(auto)]
+
+mod laws;
+mod search;
+#[cfg(test)]
+mod tests;
+mod tree;
+
+pub use laws::ranges_of_partitions;
+pub use tree::{PixelTree, Span};

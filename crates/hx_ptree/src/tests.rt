@@ -1,0 +1,202 @@
+ghost use Rattle.std.specs.Prelude.{◌≡◌, ◌*◌, ◌^◌, ◌<◌, ◌↔◌, IfOk, IsTrue};
+ghost use Rattle.hx_base.specs.Pixels.{IsPixel};
+ghost use Rattle.hx_ptree.specs.Searches.{IsPartitionList};
+
+use crate::search::{first_place, last_place};
+use crate::{PixelTree, Span};
+use hx_base::Pixel;
+use std::alloc::{AllocError, Global};
+use std::cmp::Ordering;
+use std::process::Abort;
+use std::test::Fail;
+
+fn exists(pixel: Pixel) -> bool
+    ensures { IsTrue result ↔ IsPixel pixel }
+{
+    pixel.order <= 29 && pixel.number >> (2 * pixel.order) < 12
+}
+
+// The pixels of a list that exist and begin at or behind the end of the one before.
+fn parts_of(alloc: Global, listed: &[(u8, u64)]) -> Result<Vec<Pixel>, AllocError>
+    ensures { IfOk result (λ parts. IsPartitionList parts.items) }
+{
+    let mut parts = Vec::new(alloc);
+    let mut end = 0;
+    for (order, number) in listed {
+        let pixel = Pixel {
+            order: *order,
+            number: *number,
+        };
+        if parts.len() < 100_000 && exists(pixel) && end <= first_place(pixel) {
+            parts.push(pixel)?;
+            end = last_place(pixel) + 1;
+        }
+    }
+    Ok(parts)
+}
+
+fn tree_of(alloc: Global, listed: &[(u8, u64)]) -> Result<PixelTree, AllocError> {
+    let parts = parts_of(alloc, listed)?;
+    PixelTree::build(alloc, &parts)
+}
+
+fn check_holder(rt: &impl Abort, tree: &PixelTree, place: u64, holder: Option<u32>)
+    requires { place < 12 * 4 ^ 29 }
+{
+    assert_eq!(rt; tree.holder(place), holder, "at {place}");
+}
+
+fn check_spans(rt: &impl Abort, tree: &PixelTree, cases: &[((u8, u64), (u32, u32))]) {
+    for ((order, number), (first, count)) in cases {
+        let pixel = Pixel {
+            order: *order,
+            number: *number,
+        };
+        assert!(rt; exists(pixel));
+        let span = Span {
+            first: *first,
+            count: *count,
+        };
+        assert_eq!(rt; tree.overlapping(pixel), span, "of {order}, {number}");
+    }
+}
+
+#[test]
+fn four_partitions(rt: HostRuntime) -> Result<(), Fail> {
+    let tree = tree_of(rt.alloc(), &[(1, 0), (1, 1), (1, 2), (0, 4)])?;
+    check_holder(&rt, &tree, 0, Some(0));
+    check_holder(&rt, &tree, 72_057_594_037_927_935, Some(0));
+    check_holder(&rt, &tree, 72_057_594_037_927_936, Some(1));
+    check_holder(&rt, &tree, 216_172_782_113_783_808, None);
+    check_holder(&rt, &tree, 1_152_921_504_606_846_975, None);
+    check_holder(&rt, &tree, 1_152_921_504_606_846_976, Some(3));
+    check_holder(&rt, &tree, 1_441_151_880_758_558_719, Some(3));
+    check_holder(&rt, &tree, 1_441_151_880_758_558_720, None);
+    check_holder(&rt, &tree, 3_458_764_513_820_540_927, None);
+    let cases = [
+        ((0, 0), (0, 3)),
+        ((2, 64), (3, 1)),
+        // Between two, and behind all.
+        ((1, 3), (3, 0)),
+        ((0, 1), (3, 0)),
+        ((0, 5), (4, 0)),
+        ((0, 11), (4, 0)),
+    ];
+    check_spans(&rt, &tree, &cases);
+    Ok(())
+}
+
+#[test]
+fn partitions_of_two_orders(rt: HostRuntime) -> Result<(), Fail> {
+    let tree = tree_of(rt.alloc(), &[(1, 5), (2, 40)])?;
+    let cases = [
+        // Before all, between two and behind all.
+        ((0, 0), (0, 0)),
+        ((1, 4), (0, 0)),
+        ((1, 6), (1, 0)),
+        ((2, 39), (1, 0)),
+        ((2, 41), (2, 0)),
+        ((1, 11), (2, 0)),
+        // One of them, one that lies inside, and one that holds it.
+        ((1, 5), (0, 1)),
+        ((2, 40), (1, 1)),
+        ((29, 360_287_970_189_639_680), (0, 1)),
+        ((29, 432_345_564_227_567_615), (0, 1)),
+        ((29, 432_345_564_227_567_616), (1, 0)),
+        ((0, 1), (0, 1)),
+        ((1, 10), (1, 1)),
+    ];
+    check_spans(&rt, &tree, &cases);
+    Ok(())
+}
+
+#[test]
+fn no_partitions(rt: HostRuntime) -> Result<(), Fail> {
+    let tree = tree_of(rt.alloc(), &[])?;
+    check_holder(&rt, &tree, 0, None);
+    check_spans(&rt, &tree, &[((0, 0), (0, 0)), ((29, 7), (0, 0))]);
+    Ok(())
+}
+
+// The pixel of an order, or of its own where that is lower, in which a pixel lies.
+fn ancestor(pixel: Pixel, order: u8) -> u64 {
+    let steps = pixel.order.saturating_sub(order);
+    pixel.number.checked_shr(2 * u32::from(steps)).unwrap_or(0)
+}
+
+// Whether a pixel stands before another, overlaps it or stands behind it.
+fn compare(a: Pixel, b: Pixel) -> Ordering {
+    let order = a.order.min(b.order);
+    ancestor(a, order).cmp(&ancestor(b, order))
+}
+
+// The span of a pixel as a loop over all partitions finds it.
+fn scanned(parts: &[Pixel], pixel: Pixel) -> Span {
+    let mut span = Span { first: 0, count: 0 };
+    for part in parts {
+        match compare(*part, pixel) {
+            Ordering::Less => span.first = span.first.saturating_add(1),
+            Ordering::Equal => span.count = span.count.saturating_add(1),
+            Ordering::Greater => {}
+        }
+    }
+    span
+}
+
+// Whether the search for a position's partition finds what the loop finds.
+fn holder_agrees(tree: &PixelTree, parts: &[Pixel], place: u64) -> bool
+    requires { place < 12 * 4 ^ 29 }
+{
+    let pixel = Pixel {
+        order: 29,
+        number: place,
+    };
+    let span = scanned(parts, pixel);
+    tree.holder(place) == (span.count == 1).then_some(span.first)
+}
+
+// Whether both searches find for a pixel, and for its first and last position, what the loop finds.
+fn agrees(tree: &PixelTree, parts: &[Pixel], pixel: Pixel) -> bool
+    requires { IsPixel pixel }
+{
+    let first = first_place(pixel);
+    let last = last_place(pixel);
+    let holders = holder_agrees(tree, parts, first) && holder_agrees(tree, parts, last);
+    holders && tree.overlapping(pixel) == scanned(parts, pixel)
+}
+
+// Pixels of orders 0 to 4, some of which overlap.
+fn random_pixels(alloc: Global, seed: u64) -> Result<Vec<(u8, u64)>, AllocError> {
+    let mut pixels = Vec::new(alloc);
+    let mut state = seed;
+    for place in 0..3072 {
+        state = state
+            .wrapping_mul(6_364_136_223_846_793_005)
+            .wrapping_add(1_442_695_040_888_963_407);
+        let order = ((state >> 33) % 5) as u8;
+        if (state >> 40) % 4 == 0 {
+            pixels.push((order, place >> (8 - 2 * order)))?;
+        }
+    }
+    Ok(pixels)
+}
+
+#[test]
+fn searches_find_what_a_loop_finds(rt: HostRuntime) -> Result<(), Fail> {
+    let alloc = rt.alloc();
+    for seed in 0..8 {
+        let parts = parts_of(alloc, &random_pixels(alloc, seed)?)?;
+        assert!(&rt; parts.len() > 100);
+        let tree = PixelTree::build(alloc, &parts)?;
+        for order in 0..=3 {
+            for number in 0..768 {
+                let pixel = Pixel { order, number };
+                assert!(&rt;
+                    !exists(pixel) || agrees(&tree, &parts, pixel),
+                    "at {order}, {number}"
+                );
+            }
+        }
+    }
+    Ok(())
+}
