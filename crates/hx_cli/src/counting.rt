@@ -81,7 +81,9 @@ fn hist_of_table(alloc: Global, order: u8, table: &[u64]) -> Result<Hist, AllocE
 {
     let mut hist = Hist::new(alloc, order);
     for (pixel, count) in table.iter().enumerate() {
-        hist.add(pixel as u64, *count)?;
+        if *count > 0 {
+            hist.add(pixel as u64, *count)?;
+        }
     }
     Ok(hist)
 }
@@ -114,7 +116,10 @@ fn count_sorted(alloc: Global, order: u8, rows: &[Row]) -> Result<Hist, AllocErr
     Ok(hist)
 }
 
-/// The counts of rows by pixel of an order. A table of all pixels serves where it has at most four places a row.
+// A table has at most so many places a row.
+const PLACES_A_ROW: usize = 8;
+
+/// The counts of rows by pixel of an order, by way of a table where it isn't too large for the rows.
 pub fn count_rows(alloc: Global, order: u8, rows: &[Row]) -> Result<Hist, AllocError>
     requires order { order ≤ 29 }
     requires good { All IsGood rows.now }
@@ -122,7 +127,7 @@ pub fn count_rows(alloc: Global, order: u8, rows: &[Row]) -> Result<Hist, AllocE
     ensures counts { IfOk result (λ hist. (p : ℕ) → count_at p hist.pairs ≡ count_in order p rows.now) }
     ensures total { IfOk result (λ hist. total_of hist.pairs ≡ length rows.now) }
 {
-    if pixels_of(order) / 4 <= rows.len() {
+    if pixels_of(order) / PLACES_A_ROW <= rows.len() {
         return count_by_table(alloc, order, rows);
     }
     count_sorted(alloc, order, rows)
