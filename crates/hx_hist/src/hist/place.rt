@@ -33,7 +33,11 @@ pub fn add_to(pairs: &mut Vec<Pair>, pixel: u64, count: u64) -> Result<(), Alloc
     ensures err { OnErr result (pairs.new.items ≡ pairs.old.items) }
 {
     let place = place_of(pairs, pixel);
-    if place < pairs.len() && pairs[place].pixel == pixel {
+    if place == pairs.len() {
+        pairs.push(Pair { pixel, count })?;
+        return Ok(());
+    }
+    if pairs[place].pixel == pixel {
         let pair = &mut pairs[place];
         pair.count += count;
         return Ok(());

@@ -3,7 +3,6 @@ use Rattle.std.proofs.lemmas.List.{get_or_default}
 use Rattle.hx_hist.specs.declared.hist.Pair.{Pair}
 use Rattle.hx_hist.proofs.Pairs.{adds_read, adds_insert, is_place}
 use Rattle.hx_hist.proofs.hist.place.add_to.Goals as goal
-use Rattle.hx_hist.proofs.hist.place.add_to.Goals.{else-place-len-via-then-place-len+else-index-pixel, else-place-len-via-else-place-len}
 
 pub returns-then-index-pixel-clause-ok : goal.returns-then-index-pixel-clause-ok
 returns-then-index-pixel-clause-ok c = adds_read c.args.pixel c.args.count _ c.place_of-place.result c.index_mut-pair.result.now c.index.result.now (omega arith) c.index_mut-pair.ensures.value c.index.ensures c.if-index-pixel.true
@@ -17,8 +16,4 @@ returns-clause-ok c =
     rw c.in_ok-insert.ensures.items
     (adds_insert c.args.pixel c.args.count c.args.pairs.now.items place.result c.requires.some
     (is_place c.args.pixel place.result c.args.pairs.now.items c.requires.ascending within before after
-    (λ lt d. elim c.else-place-len.branch [
-      | else-place-len-via-then-place-len+else-index-pixel w ↦
-          λ same. w.if-index-pixel.false (ap (λ (pair : Pair). pair.pixel) (w.index.ensures ∙ get_or_default c.args.pairs.now.items place.result w.index.result.now d lt) ∙ same)
-      | else-place-len-via-else-place-len w ↦ absurd (omega arith)
-    ])))
+    (λ lt d same. c.if-index-pixel.false (ap (λ (pair : Pair). pair.pixel) (c.index.ensures ∙ get_or_default c.args.pairs.now.items place.result c.index.result.now d lt) ∙ same))))
