@@ -1,0 +1,4 @@
+pub mod Fields
+pub mod PageHeaders
+pub mod Refusals
+pub mod Walks
