@@ -1,3 +1,4 @@
 mod Entries
+mod Lists
 mod Sights
 mod Walked

@@ -1,14 +1,15 @@
 -- Walking through the entries of a struct, as a loop does.
-use Rattle.std.proofs.Common.{◌≡◌, ℕ, zero, suc, ◌+◌, ◌<◌, ◌⊎◌, inl, inr, List, [], ◌∷◌, ◌++◌, length, Result, Some, None, Ok, Err, refl, sym, ap, ◌∙◌, append_assoc, arith, ℤ, pos}
-use Rattle.std.proofs.lemmas.List.{append-nil}
+use Rattle.std.proofs.Common.{◌≡◌, ℕ, zero, suc, ◌+◌, ◌<◌, ◌⊎◌, inl, inr, List, [], ◌∷◌, ◌++◌, length, map, Result, Some, None, Ok, Err, refl, sym, ap, ◌∙◌, append_assoc, arith, ℤ, pos}
+use Rattle.std.proofs.lemmas.List.{append-nil, map-append}
 use Rattle.hx_thrift.specs.declared.header.Field.{Field}
 use Rattle.hx_thrift.specs.declared.refusal.ThriftRefusal.{ThriftRefusal}
 use Rattle.hx_thrift.specs.declared.refusal.ThriftRefusal.TheVariants.{Short}
 use Rattle.hx_thrift.specs.Texts.{Text, Read, ◌>>=◌, read_as}
-use Rattle.hx_thrift.specs.Values.{Entry}
-use Rattle.hx_thrift.specs.Reading.{field_at, entries_at, struct_at}
+use Rattle.hx_thrift.specs.Values.{Entry, Node, entries}
+use Rattle.hx_thrift.specs.Reading.{field_at, elements_at, entries_at, struct_at}
 use Rattle.hx_pqmeta.specs.declared.refusal.PqRefusal.{PqRefusal}
 use Rattle.hx_pqmeta.specs.declared.refusal.PqRefusal.TheVariants.{Memory, Thrift}
+use Rattle.hx_pqmeta.specs.Fields.{entries_in}
 use Rattle.hx_pqmeta.specs.Refusals.{place_of, placed}
 use Rattle.hx_pqmeta.specs.Walks.{Refuses}
 
@@ -78,3 +79,35 @@ at_end read (suc n) last text front count = absurd (omega arith)
 pub no_entries : {A : Type 0} (read : ℕ → Text → Read A) (text : Text) → with_front [] (entries_at read (length text.bytes) (pos 0) text) ≡ struct_at read text
 unfolding struct_at
 no_entries read text = from_first (entries_at read (length text.bytes) (pos 0) text)
+
+-- ---- structs one after another
+
+pub next_element : {B : Type 0} (read : Text → Read B) (n less : ℕ) (text after : Text) (x : B) (front : List B) → read text ≡ Ok (x, after) → n ≡ less + 1
+    → with_front front (elements_at read n text) ≡ with_front (front ++ x ∷ []) (elements_at read less after)
+unfolding elements_at
+next_element read zero less text after x front part count = absurd (omega arith)
+next_element read (suc n) less text after x front part count =
+    let same : n ≡ less = omega arith in
+    rw (part, same) (over front x (elements_at read less after))
+
+pub refused_element : {B : Type 0} (read : Text → Read B) (n : ℕ) (text : Text) (refusal : ThriftRefusal) (front : List B) → 0 < n → read text ≡ Err refusal
+    → with_front front (elements_at read n text) ≡ Err refusal
+unfolding elements_at
+refused_element read zero text refusal front count part = absurd (omega arith)
+refused_element read (suc n) text refusal front count part = rw part refl
+
+pub no_more : {B : Type 0} (read : Text → Read B) (n : ℕ) (text : Text) (front : List B) → n ≡ 0 → with_front front (elements_at read n text) ≡ Ok (front, text)
+unfolding elements_at
+no_more {B = B} read zero text front count = ap (λ (xs : List B). Ok (xs, text)) (append-nil front)
+no_more read (suc n) text front count = absurd (omega arith)
+
+-- what is kept of a list after one more struct
+pub one_more : {A T : Type 0} (said : List (Entry A) → T) (kept : List T) (xs : List (Node A)) (t : T) (es : List (Entry A)) → kept ≡ map said (map entries_in xs) → t ≡ said es
+    → kept ++ t ∷ [] ≡ map said (map entries_in (xs ++ entries es ∷ []))
+one_more said kept xs t es so_far is =
+    rw (map-append entries_in xs (entries es ∷ []), map-append said (map entries_in xs) (es ∷ []), so_far, is) refl
+
+-- where memory may be wanted, more may be refused
+pub wanting : {B : Type 0} (wants : Type 0) (refusal : PqRefusal) (read : Read B) → Refuses wants refusal read → Refuses (Unit {0}) refusal read
+wanting wants refusal read (inl want) = inl (tt, want.1)
+wanting wants refusal read (inr is) = inr is

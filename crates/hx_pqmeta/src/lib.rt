@@ -3,10 +3,20 @@
 //! What is read, and which refusal comes first, is exactly what the definitions in `specs/` say.
 #![tactic(auto)]
 
+mod chunk;
+mod file;
+mod footer;
+mod listing;
 mod page;
+mod reading;
 mod refusal;
+mod row_group;
+mod schema;
 mod sight;
 mod walking;
 
+pub use chunk::Chunk;
+pub use footer::{Footer, Group, Leaf};
 pub use page::{PageHead, read_page_header};
+pub use reading::read_footer;
 pub use refusal::PqRefusal;
