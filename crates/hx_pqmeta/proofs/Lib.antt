@@ -1,3 +1,5 @@
+mod Checks
+mod Counts
 mod Entries
 mod Lists
 mod Sights

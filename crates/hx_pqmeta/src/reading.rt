@@ -1,8 +1,8 @@
-ghost use Rattle.std.specs.Prelude.{◌≡◌, ◌+◌, ◌<◌, ◌≤◌, ◌^◌, length, map, take, drop};
+ghost use Rattle.std.specs.Prelude.{◌≡◌, ◌↔◌, pos, ◌≤ℤ◌, IfOk, ◌+◌, ◌<◌, ◌≤◌, ◌^◌, IsTrue, length, map, take, drop};
 ghost use Rattle.std.specs.List.{list_any};
 ghost use Rattle.std.specs.Option.{option_map};
 ghost use Rattle.hx_pqmeta.specs.Refusals.{AnswersOrWants, each};
-ghost use Rattle.hx_pqmeta.specs.Footers.{footer_len, footer_text, below_root, leaf_of, group_of, footer_of, is_above_zero, is_nested, are_counts, sound, footer_at, footer_in};
+ghost use Rattle.hx_pqmeta.specs.Footers.{footer_len, is_parquet, footer_text, below_root, leaf_of, group_of, footer_of, is_above_zero, is_nested, are_counts, sound, footer_at, footer_in};
 
 use crate::file::FileMetaData;
 use crate::footer::{Footer, Group, Leaf};
@@ -29,22 +29,32 @@ const TAIL: usize = 8;
 pub fn read_footer(alloc: Global, bytes: &[u8]) -> Result<Footer, PqRefusal>
     ensures { AnswersOrWants (λ footer. footer) result (footer_in bytes.now) }
 {
-    let start = footer_start(bytes)?;
-    footer_at(alloc, &bytes[start..bytes.len() - TAIL], start as u64)
+    let (start, footer) = footer_text(bytes)?;
+    footer_at(alloc, footer, start)
 }
 
-// The place of the footer in a whole file.
-fn footer_start(bytes: &[u8]) -> Result<usize, PqRefusal>
+// The place of the footer in a whole file, and its bytes.
+#[tactic(auto, unfolding(crate::specs::Footers::footer_text))]
+fn footer_text(bytes: &[u8]) -> Result<(u64, &[u8]), PqRefusal>
+    ensures range { IfOk result (λ x. x.0 + length x.1.now < 2 ^ 64) }
+    ensures value { AnswersOrWants (λ x. record { at = x.0; bytes = x.1.now }) result (footer_text bytes.now) }
 {
-    if bytes.len() < 12 || !bytes.starts_with(&MAGIC) || !bytes.ends_with(&MAGIC) {
+    if !is_parquet(bytes) {
         return Err(PqRefusal::NotParquet);
     }
     let len = footer_len(bytes);
-    if len <= bytes.len() - 12 {
-        Ok(bytes.len() - TAIL - len)
-    } else {
-        Err(PqRefusal::NotParquet)
-    }
+    let start = bytes.len() - TAIL - len;
+    Ok((start as u64, &bytes[start..][..len]))
+}
+
+fn is_parquet(bytes: &[u8]) -> bool
+    ensures whole { IsTrue result → footer_len bytes.now + 12 ≤ length bytes.now }
+    ensures test { result ≡ is_parquet bytes.now }
+{
+    bytes.len() >= 12
+        && bytes.starts_with(&MAGIC)
+        && bytes.ends_with(&MAGIC)
+        && footer_len(bytes) <= bytes.len() - 12
 }
 
 fn footer_len(bytes: &[u8]) -> usize
@@ -69,7 +79,7 @@ fn footer_at(alloc: Global, bytes: &[u8], start: u64) -> Result<Footer, PqRefusa
 // The footer with these fields, each of which has to be there.
 #[tactic(auto, unfolding(crate::specs::Footers::footer_of))]
 fn footer_of(alloc: Global, start: u64, fields: FileMetaData<'_>) -> Result<Footer, PqRefusal>
-    ensures { AnswersOrWants (λ footer. footer) result (footer_of start fields) }
+    ensures { AnswersOrWants (λ footer. footer) result (footer_of start fields.entry) }
 {
     let schema = needed(fields.schema, 102)?;
     let elements = below_root(&schema)?;
@@ -135,7 +145,7 @@ fn group_of(fields: RowGroup) -> Result<Group, PqRefusal>
 fn sound(footer: Footer) -> Result<Footer, PqRefusal>
     ensures { AnswersOrWants (λ footer. footer) result (sound footer) }
 {
-    if footer.leaves().iter().any(|leaf: &Leaf| -> bool ensures { result ≡ is_nested leaf.now } { is_nested(leaf) }) {
+    if has_nested(footer.leaves()) {
         return Err(PqRefusal::Nested);
     }
     if are_counts(footer.rows(), footer.groups()) {
@@ -143,6 +153,12 @@ fn sound(footer: Footer) -> Result<Footer, PqRefusal>
     } else {
         Err(PqRefusal::Counts)
     }
+}
+
+fn has_nested(leaves: &[Leaf]) -> bool
+    ensures { result ≡ list_any is_nested leaves.now }
+{
+    leaves.iter().any(|leaf| is_nested(leaf))
 }
 
 fn is_nested(leaf: &Leaf) -> bool
@@ -170,10 +186,16 @@ fn are_counts(rows: i64, groups: &[Group]) -> bool
     let mut left = rows;
     for group in groups {
         let count = group.rows();
-        if count < 0 || left < count {
+        if !lies_within(count, left) {
             return false;
         }
         left -= count;
     }
     left == 0
+}
+
+fn lies_within(count: i64, left: i64) -> bool
+    ensures { IsTrue result ↔ ((pos 0 ≤ℤ count) × (count ≤ℤ left)) }
+{
+    0 <= count && count <= left
 }
