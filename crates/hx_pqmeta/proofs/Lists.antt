@@ -64,6 +64,9 @@ as_elements kind (Ok xs) value rest is =
     let behind : xs.1 ≡ rest = ap (λ y. y.1) same in
     (xs.0, rw (← behind) refl, sym (ap (λ y. y.0) same))
 
+no_structs : {A : Type 0} (kind : ℕ) (x : Node A) (xs : List (Node A)) → nat_eq kind 12 ≡ false → structs_of (elements kind (x ∷ xs)) ≡ None
+no_structs kind x xs other = rw other refl
+
 pub other_list : (levels : ℕ) (text body rest : Text) (head : ListHead) (value : Value (suc (suc levels))) → list_at text ≡ Ok (head, body) → (head.kind ≡ 12 → ⊥) → (head.size ≡ 0 → ⊥)
     → value_at (suc (suc levels)) 9 text ≡ Ok (value, rest) → structs_of value ≡ None
 unfolding value_at container_at sequence_at
@@ -71,7 +74,7 @@ other_list levels text body rest head value header kind size read =
     let found = as_elements head.kind _ value rest (rw header at read) in
     let some = some_elements _ head.size body rest found.0 size found.1 in
     let other : nat_eq head.kind 12 ≡ false = grind (arith, nat_tests) in
-    rw (found.2, some.2, other) refl
+    rw (found.2, some.2) (no_structs head.kind some.0 some.1 other)
 
 -- the two kinds of list that are read
 pub read_list : (levels : ℕ) (text body rest : Text) (head : ListHead) (xs : List (Value (suc levels))) → list_at text ≡ Ok (head, body) → (head.kind ≡ 12) ⊎ (head.size ≡ 0)

@@ -1,4 +1,4 @@
-ghost use Rattle.std.specs.Prelude.{◌≡◌, ◌+◌, ◌<◌, ◌^◌, length};
+ghost use Rattle.std.specs.Prelude.{◌≡◌, ◌+◌, ◌<◌, ◌≤◌, ◌^◌, length, IfOk};
 ghost use Rattle.hx_pqmeta.specs.Refusals.{needed};
 ghost use Rattle.hx_pqmeta.specs.Fields.{data_page_header_of, page_header_of};
 ghost use Rattle.hx_pqmeta.specs.PageHeaders.{with_data_page, page_head_of, page_head_at};
@@ -98,7 +98,8 @@ impl<'a> Kept<'a> for PageHeader {
 
 #[tactic(auto, unfolding(crate::specs::PageHeaders::with_data_page))]
 fn with_data_page(head: PageHead, header: Option<DataPageHeader>) -> Result<PageHead, PqRefusal>
-    ensures { result ≡ with_data_page head header }
+    ensures next { IfOk result (λ x. x.next ≡ head.next) }
+    ensures value { result ≡ with_data_page head header }
 {
     let data_page = needed(header, 605)?;
     let values = needed(data_page.values, 701)?;
@@ -113,7 +114,8 @@ fn with_data_page(head: PageHead, header: Option<DataPageHeader>) -> Result<Page
 
 #[tactic(auto, unfolding(crate::specs::PageHeaders::page_head_of))]
 fn page_head(header: PageHeader, next: u64) -> Result<PageHead, PqRefusal>
-    ensures { result ≡ page_head_of header next }
+    ensures next { IfOk result (λ head. head.next ≡ next) }
+    ensures value { result ≡ page_head_of header next }
 {
     let head = PageHead {
         kind: needed(header.kind, 601)?,
@@ -138,7 +140,8 @@ fn page_head(header: PageHeader, next: u64) -> Result<PageHead, PqRefusal>
 #[tactic(auto, unfolding(crate::specs::PageHeaders::page_head_at, crate::specs::Fields::last))]
 pub fn read_page_header(bytes: &[u8], at: u64) -> Result<PageHead, PqRefusal>
     requires { at + length bytes.now < 2 ^ 64 }
-    ensures { result ≡ page_head_at (record { at = at; bytes = bytes.now }) }
+    ensures next { IfOk result (λ head. (at ≤ head.next) × (head.next ≤ at + length bytes.now)) }
+    ensures value { result ≡ page_head_at (record { at = at; bytes = bytes.now }) }
 {
     let mut reader = Reader::new(bytes, at);
     let header = walk(&mut reader, NO_PAGE)?;

@@ -27,7 +27,8 @@ const TAIL: usize = 8;
 /// (104), of each leaf's repetition and name (203, 204), and of each group's chunks and rows (301, 303); Nested; Counts.
 #[tactic(auto, unfolding(crate::specs::Footers::footer_in))]
 pub fn read_footer(alloc: Global, bytes: &[u8]) -> Result<Footer, PqRefusal>
-    ensures { AnswersOrWants (λ footer. footer) result (footer_in bytes.now) }
+    ensures start { IfOk result (λ footer. (4 ≤ footer.start) × (footer.start + 8 ≤ length bytes.now)) }
+    ensures value { AnswersOrWants (λ footer. footer) result (footer_in bytes.now) }
 {
     let (start, footer) = footer_text(bytes)?;
     footer_at(alloc, footer, start)
@@ -36,6 +37,7 @@ pub fn read_footer(alloc: Global, bytes: &[u8]) -> Result<Footer, PqRefusal>
 // The place of the footer in a whole file, and its bytes.
 #[tactic(auto, unfolding(crate::specs::Footers::footer_text))]
 fn footer_text(bytes: &[u8]) -> Result<(u64, &[u8]), PqRefusal>
+    ensures start { IfOk result (λ x. (4 ≤ x.0) × (x.0 + length x.1.now + 8 ≡ length bytes.now)) }
     ensures range { IfOk result (λ x. x.0 + length x.1.now < 2 ^ 64) }
     ensures value { AnswersOrWants (λ x. record { at = x.0; bytes = x.1.now }) result (footer_text bytes.now) }
 {
@@ -69,7 +71,8 @@ fn footer_len(bytes: &[u8]) -> usize
 #[tactic(auto, unfolding(crate::specs::Footers::footer_at))]
 fn footer_at(alloc: Global, bytes: &[u8], start: u64) -> Result<Footer, PqRefusal>
     requires { start + length bytes.now < 2 ^ 64 }
-    ensures { AnswersOrWants (λ footer. footer) result (footer_at (record { at = start; bytes = bytes.now })) }
+    ensures start { IfOk result (λ footer. footer.start ≡ start) }
+    ensures value { AnswersOrWants (λ footer. footer) result (footer_at (record { at = start; bytes = bytes.now })) }
 {
     let mut reader = Reader::new(bytes, start);
     let fields = walk(&mut reader, FileMetaData::fresh(alloc))?;
@@ -79,7 +82,8 @@ fn footer_at(alloc: Global, bytes: &[u8], start: u64) -> Result<Footer, PqRefusa
 // The footer with these fields, each of which has to be there.
 #[tactic(auto, unfolding(crate::specs::Footers::footer_of))]
 fn footer_of(alloc: Global, start: u64, fields: FileMetaData<'_>) -> Result<Footer, PqRefusal>
-    ensures { AnswersOrWants (λ footer. footer) result (footer_of start fields.entry) }
+    ensures start { IfOk result (λ footer. footer.start ≡ start) }
+    ensures value { AnswersOrWants (λ footer. footer) result (footer_of start fields.entry) }
 {
     let schema = needed(fields.schema, 102)?;
     let elements = below_root(&schema)?;
@@ -143,7 +147,8 @@ fn group_of(fields: RowGroup) -> Result<Group, PqRefusal>
 // A footer is refused where a leaf is nested, or the rows aren't counted right.
 #[tactic(auto, unfolding(crate::specs::Footers::sound))]
 fn sound(footer: Footer) -> Result<Footer, PqRefusal>
-    ensures { AnswersOrWants (λ footer. footer) result (sound footer) }
+    ensures start { IfOk result (λ x. x.start ≡ footer.start) }
+    ensures value { AnswersOrWants (λ footer. footer) result (sound footer) }
 {
     if has_nested(footer.leaves()) {
         return Err(PqRefusal::Nested);
