@@ -81,22 +81,22 @@ has_bytes_more {id = id} {kind = kind} {sight = sight} seen field es before show
     let view : Bor (List ℕ) → List ℕ = λ b. b.now in
     let after = option_or (option_map view fresh) (bytes field es) in
     let same = more bytes_of field 8 es (record { id = id; kind = kind; value = seen.value }) (bytes field es) (option_map view fresh) after (option_map view sight.bytes) sight.id seen.id_is seen.bytes refl
-      (ap (option_map view) now ∙ map_cond view (int_eq sight.id (pos field)) sight.bytes) refl in
+    (ap (option_map view) now ∙ map_cond view (int_eq sight.id (pos field)) sight.bytes) refl in
     rw (so_far, is) (some_or fresh (bytes field es) ∙ ap is_some same)
 
 -- a chunk's path alone changes
 pub with_path : {A : Type 0} (old : Chunk) (path : Bool) (es : List (Entry (Node (Node A)))) (e : Entry (Node (Node A))) → old ≡ chunk_of es → path ≡ is_some (bytes 1 (es ++ e ∷ [])) → struct 3 (es ++ e ∷ []) ≡ struct 3 es
     → record {
-        has_path = path;
-        has_meta = old.has_meta;
-        codec = old.codec;
-        values = old.values;
-        plain_size = old.plain_size;
-        stored_size = old.stored_size;
-        data_page = old.data_page;
-        dictionary_page = old.dictionary_page;
-      }
-      ≡ chunk_of (es ++ e ∷ [])
+      has_path = path;
+      has_meta = old.has_meta;
+      codec = old.codec;
+      values = old.values;
+      plain_size = old.plain_size;
+      stored_size = old.stored_size;
+      data_page = old.data_page;
+      dictionary_page = old.dictionary_page;
+    }
+    ≡ chunk_of (es ++ e ∷ [])
 with_path old path es e so_far is same = rw (so_far, is, same) refl
 
 -- another field's entry changes nothing

@@ -1,6 +1,6 @@
 ghost use Rattle.hx_pqmeta.specs.Fields.{meta_data_of, chunk_of};
 
-use crate::listing::Listed;
+use crate::listing::Fresh;
 use crate::refusal::PqRefusal;
 use crate::sight::see;
 use crate::walking::{Kept, is_entry, walk};
@@ -108,7 +108,7 @@ impl<'a> Kept<'a> for Chunk {
     }
 }
 
-impl<'a> Listed<'a> for Chunk {
+impl<'a> Fresh<'a> for Chunk {
     #[tactic(auto, unfolding(crate::specs::Fields::last))]
     fn fresh(_alloc: Global) -> Chunk {
         NO_CHUNK

@@ -2,7 +2,7 @@ ghost use Rattle.std.specs.Option.{option_map};
 ghost use Rattle.hx_pqmeta.specs.Records.{FileFields};
 ghost use Rattle.hx_pqmeta.specs.Fields.{file_of};
 
-use crate::listing::{Listed, structs, update};
+use crate::listing::{Fresh, structs, update};
 use crate::refusal::PqRefusal;
 use crate::row_group::RowGroup;
 use crate::schema::SchemaElement;
@@ -50,7 +50,7 @@ impl<'a> Kept<'a> for FileMetaData<'a> {
     }
 }
 
-impl<'a> Listed<'a> for FileMetaData<'a> {
+impl<'a> Fresh<'a> for FileMetaData<'a> {
     #[tactic(auto, unfolding(crate::specs::Fields::last))]
     fn fresh(alloc: Global) -> FileMetaData<'a> {
         FileMetaData {

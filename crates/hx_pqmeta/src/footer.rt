@@ -20,12 +20,8 @@ impl Model for Leaf {
 }
 
 impl Leaf {
-    pub fn new(
-        kind: Option<i32>,
-        repetition: i32,
-        name: Vec<u8>,
-        children: Option<i32>,
-    ) -> Leaf
+    /// A leaf of these parts.
+    pub fn new(kind: Option<i32>, repetition: i32, name: Vec<u8>, children: Option<i32>) -> Leaf
         ensures { result ≡ record { kind = kind; repetition = repetition; name = name.items; children = children } }
     {
         Leaf {
@@ -50,6 +46,7 @@ impl Leaf {
         self.repetition
     }
 
+    /// The column's name, in any bytes.
     pub fn name(&self) -> &[u8]
         ensures { result.now ≡ self.now.name }
     {
@@ -78,18 +75,21 @@ impl Model for Group {
 }
 
 impl Group {
+    /// A group of these parts.
     pub fn new(rows: i64, chunks: Vec<Chunk>) -> Group
         ensures { result ≡ record { rows = rows; chunks = chunks.items } }
     {
         Group { rows, chunks }
     }
 
+    /// How many rows the group has.
     pub fn rows(&self) -> i64
         ensures { result ≡ self.now.rows }
     {
         self.rows
     }
 
+    /// The columns' values, in the order of the leaves.
     pub fn chunks(&self) -> &[Chunk]
         ensures { result.now ≡ self.now.chunks }
     {
@@ -113,6 +113,7 @@ impl Model for Footer {
 }
 
 impl Footer {
+    /// A footer of these parts. It is taken as it is.
     pub fn new(start: u64, rows: i64, leaves: Vec<Leaf>, groups: Vec<Group>) -> Footer
         ensures { result ≡ record { start = start; rows = rows; leaves = leaves.items; groups = groups.items } }
     {

@@ -20,3 +20,6 @@ pub use footer::{Footer, Group, Leaf};
 pub use page::{PageHead, read_page_header};
 pub use reading::read_footer;
 pub use refusal::PqRefusal;
+
+#[cfg(test)]
+mod tests;

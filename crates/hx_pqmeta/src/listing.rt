@@ -9,8 +9,8 @@ use crate::walking::{Kept, walk};
 use hx_thrift::{ListHead, Reader};
 use std::alloc::Global;
 
-/// What is kept of a struct that stands in a list.
-pub trait Listed<'a>: Kept<'a> {
+/// What is kept of a struct, and can begin anew.
+pub trait Fresh<'a>: Kept<'a> {
     /// What no entries say.
     fn fresh(alloc: Global) -> Self
         ensures { result ≡ Self.said [] };
@@ -18,7 +18,7 @@ pub trait Listed<'a>: Kept<'a> {
 
 /// Reads a list inside `depth` containers, if its elements are structs or it has none. The answer is `None` where it
 /// was passed over.
-pub fn structs<'a, T: Listed<'a>>(
+pub fn structs<'a, T: Fresh<'a>>(
     alloc: Global,
     reader: &mut Reader<'a>,
     depth: u32,
@@ -55,7 +55,7 @@ pub fn update<T: Drop>(kept: &mut Option<T>, found: Option<T>)
 }
 
 // Reads so many structs, one after another.
-fn walk_structs<'a, T: Listed<'a>>(
+fn walk_structs<'a, T: Fresh<'a>>(
     alloc: Global,
     reader: &mut Reader<'a>,
     size: u32,

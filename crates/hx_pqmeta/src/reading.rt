@@ -6,7 +6,7 @@ ghost use Rattle.hx_pqmeta.specs.Footers.{footer_len, is_parquet, footer_text, b
 
 use crate::file::FileMetaData;
 use crate::footer::{Footer, Group, Leaf};
-use crate::listing::Listed;
+use crate::listing::Fresh;
 use crate::refusal::{PqRefusal, needed};
 use crate::row_group::RowGroup;
 use crate::schema::SchemaElement;
@@ -25,6 +25,7 @@ const TAIL: usize = 8;
 /// The first refusal is answered, in this order: NotParquet; Thrift, with its place in the file, where the footer
 /// doesn't begin with a struct; Missing of the schema (102, also where it is empty), the rows (103) and the groups
 /// (104), of each leaf's repetition and name (203, 204), and of each group's chunks and rows (301, 303); Nested; Counts.
+/// Memory may come in place of each answer.
 #[tactic(auto, unfolding(crate::specs::Footers::footer_in))]
 pub fn read_footer(alloc: Global, bytes: &[u8]) -> Result<Footer, PqRefusal>
     ensures start { IfOk result (λ footer. (4 ≤ footer.start) × (footer.start + 8 ≤ length bytes.now)) }

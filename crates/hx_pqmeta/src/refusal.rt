@@ -66,7 +66,7 @@ impl From<ThriftRefusal> for PqRefusal {
     }
 }
 
-// A field that has to be there.
+/// A field that has to be there.
 pub fn needed<T: Drop>(value: Option<T>, field: u16) -> Result<T, PqRefusal>
     ensures { result ≡ needed field value }
 {

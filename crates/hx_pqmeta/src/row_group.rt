@@ -3,7 +3,7 @@ ghost use Rattle.hx_pqmeta.specs.Records.{RowGroupFields};
 ghost use Rattle.hx_pqmeta.specs.Fields.{row_group_of};
 
 use crate::chunk::Chunk;
-use crate::listing::{Listed, structs, update};
+use crate::listing::{Fresh, structs, update};
 use crate::refusal::PqRefusal;
 use crate::sight::see;
 use crate::walking::{Kept, is_entry};
@@ -43,7 +43,7 @@ impl<'a> Kept<'a> for RowGroup {
     }
 }
 
-impl<'a> Listed<'a> for RowGroup {
+impl<'a> Fresh<'a> for RowGroup {
     #[tactic(auto, unfolding(crate::specs::Fields::last))]
     fn fresh(alloc: Global) -> RowGroup {
         RowGroup {

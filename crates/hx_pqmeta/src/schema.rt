@@ -3,7 +3,7 @@ ghost use Rattle.std.specs.Option.{option_map};
 ghost use Rattle.hx_pqmeta.specs.Records.{ElementFields};
 ghost use Rattle.hx_pqmeta.specs.Fields.{element_of};
 
-use crate::listing::Listed;
+use crate::listing::Fresh;
 use crate::refusal::PqRefusal;
 use crate::sight::see;
 use crate::walking::Kept;
@@ -43,7 +43,7 @@ impl<'a> Kept<'a> for SchemaElement<'a> {
     }
 }
 
-impl<'a> Listed<'a> for SchemaElement<'a> {
+impl<'a> Fresh<'a> for SchemaElement<'a> {
     #[tactic(auto, unfolding(crate::specs::Fields::last))]
     fn fresh(_alloc: Global) -> SchemaElement<'a> {
         SchemaElement {

@@ -15,23 +15,37 @@ pub struct Sight<'a> {
 }
 
 impl<'a> Sight<'a> {
-    /// The value, where this is an entry of the i32 field with the id. The like for other kinds follow.
+    /// The value, where this is an entry of the i32 field with the id.
     pub fn int32(&self, id: u8) -> Option<i32>
         ensures { result ≡ (if int_eq self.now.id (pos id) then self.now.int32 else None) }
     {
-        if self.id == i16::from(id) { self.int32 } else { None }
+        if self.id == i16::from(id) {
+            self.int32
+        } else {
+            None
+        }
     }
 
+    /// The like for an i64 field.
     pub fn int64(&self, id: u8) -> Option<i64>
         ensures { result ≡ (if int_eq self.now.id (pos id) then self.now.int64 else None) }
     {
-        if self.id == i16::from(id) { self.int64 } else { None }
+        if self.id == i16::from(id) {
+            self.int64
+        } else {
+            None
+        }
     }
 
+    /// The like for a binary.
     pub fn bytes(&self, id: u8) -> Option<&'a [u8]>
         ensures { result ≡ (if int_eq self.now.id (pos id) then self.now.bytes else None) }
     {
-        if self.id == i16::from(id) { self.bytes } else { None }
+        if self.id == i16::from(id) {
+            self.bytes
+        } else {
+            None
+        }
     }
 }
 
