@@ -1,5 +1,5 @@
 -- Lists of structs, by their header and their elements.
-use Rattle.std.proofs.Common.{◌≡◌, ℕ, zero, suc, List, [], ◌∷◌, map, Some, None, Ok, Err, ◌⊎◌, inl, inr, false, nat_eq, refl, sym, ap, ◌∙◌, Result, arith}
+use Rattle.std.proofs.Common.{◌≡◌, ℕ, zero, suc, List, [], ◌∷◌, map, Some, None, Ok, Err, ◌⊎◌, inl, inr, false, nat_eq, refl, sym, ap, arith}
 use Rattle.std.proofs.lemmas.Bool.Decides.{nat_tests}
 use Rattle.hx_thrift.specs.declared.header.ListHead.{ListHead}
 use Rattle.hx_thrift.specs.declared.refusal.ThriftRefusal.{ThriftRefusal}

@@ -1,6 +1,5 @@
 -- The value of an entry, by what the reader's calls give.
-use Rattle.std.proofs.Common.{◌≡◌, ℕ, zero, suc, ◌≤◌, ℤ, List, Some, Ok, Err, refl, arith, eqb, ltb, leb, true, false}
-use Rattle.std.proofs.lemmas.Bool.{lt-ltb, lt-leb, le-leb}
+use Rattle.std.proofs.Common.{◌≡◌, ℕ, zero, suc, ℤ, List, Some, Ok, Err, refl}
 use Rattle.hx_thrift.specs.declared.refusal.ThriftRefusal.{ThriftRefusal}
 use Rattle.hx_thrift.specs.Texts.{Text}
 use Rattle.hx_thrift.specs.Values.{number, binary, leaf, Value}

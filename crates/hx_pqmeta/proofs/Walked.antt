@@ -1,14 +1,14 @@
 -- Walking through the entries of a struct, as a loop does.
-use Rattle.std.proofs.Common.{◌≡◌, ℕ, zero, suc, ◌+◌, ◌<◌, ◌⊎◌, inl, inr, List, [], ◌∷◌, ◌++◌, length, map, Result, Some, None, Ok, Err, refl, sym, ap, ◌∙◌, append_assoc, arith, ℤ, pos}
+use Rattle.std.proofs.Common.{◌≡◌, ℕ, zero, suc, ◌+◌, ◌<◌, inl, inr, List, [], ◌∷◌, ◌++◌, length, map, Result, Some, None, Ok, Err, refl, ap, append_assoc, arith, ℤ, pos}
 use Rattle.std.proofs.lemmas.List.{append-nil, map-append}
 use Rattle.hx_thrift.specs.declared.header.Field.{Field}
 use Rattle.hx_thrift.specs.declared.refusal.ThriftRefusal.{ThriftRefusal}
 use Rattle.hx_thrift.specs.declared.refusal.ThriftRefusal.TheVariants.{Short}
-use Rattle.hx_thrift.specs.Texts.{Text, Read, ◌>>=◌, read_as}
+use Rattle.hx_thrift.specs.Texts.{Text, Read, read_as}
 use Rattle.hx_thrift.specs.Values.{Entry, Node, entries}
 use Rattle.hx_thrift.specs.Reading.{field_at, elements_at, entries_at, struct_at}
 use Rattle.hx_pqmeta.specs.declared.refusal.PqRefusal.{PqRefusal}
-use Rattle.hx_pqmeta.specs.declared.refusal.PqRefusal.TheVariants.{Memory, Thrift}
+use Rattle.hx_pqmeta.specs.declared.refusal.PqRefusal.TheVariants.{Thrift}
 use Rattle.hx_pqmeta.specs.Fields.{entries_in}
 use Rattle.hx_pqmeta.specs.Refusals.{place_of, placed}
 use Rattle.hx_pqmeta.specs.Walks.{Refuses}

@@ -1,9 +1,9 @@
 -- The fields of the structs of a Parquet file, by the entries that were read of each.
 -- The entry of a field is the last one with its id and kind; other entries are passed over. A field without an entry is None.
-use Rattle.std.specs.Prelude.{ℕ, ℤ, pos, List, [], ◌∷◌, map, Bool, true, false, ◌&&◌, ◌==◌, if◌then◌else◌, Option, Some, None}
+use Rattle.std.specs.Prelude.{ℕ, ℤ, pos, List, [], ◌∷◌, map, Bool, ◌&&◌, ◌==◌, if◌then◌else◌, Option, Some, None}
 use Rattle.std.specs.Option.{option_map, option_or, option_and_then, is_some}
 use Rattle.std.specs.Ordering.{int_eq}
-use Rattle.hx_thrift.specs.Values.{Leaf, number, binary, fixed, Entry, Node, leaf, elements, pairs, entries}
+use Rattle.hx_thrift.specs.Values.{number, binary, fixed, Entry, Node, leaf, elements, pairs, entries}
 use Rattle.hx_pqmeta.specs.declared.chunk.Chunk.{Chunk}
 use Rattle.hx_pqmeta.specs.declared.chunk.ColumnMetaData.{ColumnMetaData}
 use Rattle.hx_pqmeta.specs.declared.page.DataPageHeader.{DataPageHeader}

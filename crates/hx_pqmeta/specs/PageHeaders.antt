@@ -1,5 +1,5 @@
 -- The header of a page, or the first refusal.
-use Rattle.std.specs.Prelude.{ℕ, ℤ, pos, Option, None, Result, Ok, Err, if◌then◌else◌}
+use Rattle.std.specs.Prelude.{ℕ, ℤ, pos, Option, None, Result, Ok, if◌then◌else◌}
 use Rattle.std.specs.Ordering.{int_eq}
 use Rattle.hx_thrift.specs.Texts.{Text}
 use Rattle.hx_thrift.specs.Reading.{value_at, struct_at}

@@ -1,5 +1,4 @@
-use Rattle.std.proofs.Common.{◌≡◌, ◌⊎◌, ◌-◌, ℕ, suc, inl, inr, ap, sym, subst, refl, map, ◌∙◌, Some, Ok, Err, arith}
-use Rattle.std.specs.Option.{option_map}
+use Rattle.std.proofs.Common.{◌≡◌, ◌⊎◌, ◌-◌, ℕ, suc, inl, inr, subst, refl, Ok, Err, arith}
 use Rattle.std.proofs.lemmas.Result.{err_from_is_err_and}
 use Rattle.hx_thrift.proofs.Passing.{ok_of_rest}
 use Rattle.hx_thrift.specs.Texts.{rest_of}

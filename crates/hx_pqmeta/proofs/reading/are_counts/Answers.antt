@@ -1,4 +1,4 @@
-use Rattle.std.proofs.Common.{rules, ◌≡◌, ◌≤ℤ◌, ◌-ℤ◌, ◌+◌, ◌∷◌, ℤ, pos, List, map, drop, false, sym, ap, ◌∙◌, arith, to_z}
+use Rattle.std.proofs.Common.{rules, ◌≤ℤ◌, ◌-ℤ◌, ◌+◌, ◌∷◌, ℤ, pos, List, map, drop, sym, ap, ◌∙◌, arith, to_z}
 use Rattle.std.specs.Int.{w64}
 use Rattle.std.specs.Int.RustNames.{FitsSigned}
 use Rattle.std.proofs.lemmas.Int.{to_z-of_z, ints}

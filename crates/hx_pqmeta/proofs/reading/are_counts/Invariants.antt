@@ -1,6 +1,5 @@
-use Rattle.std.proofs.Common.{◌≡◌, map, drop, ℤ, pos, ◌≤ℤ◌, List}
+use Rattle.std.proofs.Common.{◌≡◌, map, drop, pos, ◌≤ℤ◌}
 use Rattle.hx_pqmeta.specs.Footers.{are_counts}
-use Rattle.hx_pqmeta.specs.Records.{GroupRecord}
 use Rattle.hx_pqmeta.proofs.reading.are_counts.Given as goal
 
 abbrev pub invariant-loop-group : goal.invariant-loop-group

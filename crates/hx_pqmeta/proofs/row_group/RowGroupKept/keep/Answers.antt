@@ -1,5 +1,4 @@
-use Rattle.std.proofs.Common.{refl, sym, ap, ◌∙◌, Bor, map}
-use Rattle.std.specs.Option.{option_map}
+use Rattle.std.proofs.Common.{refl, sym, ap, ◌∙◌}
 use Rattle.hx_thrift.specs.Values.{Entry, Value}
 use Rattle.hx_pqmeta.specs.Records.{RowGroupFields}
 use Rattle.hx_pqmeta.specs.Fields.{number_of, structs_of, chunk_of}
