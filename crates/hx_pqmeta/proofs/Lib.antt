@@ -1,6 +1,7 @@
 mod Checks
 mod Counts
-mod Entries
+pub mod Entries
+pub mod Framing
 mod Lists
 mod Sights
 mod Walked

@@ -1,4 +1,5 @@
 pub mod Fields
+pub mod Files
 pub mod Footers
 pub mod PageHeaders
 pub mod Records

@@ -6,6 +6,7 @@
 mod chunk;
 mod file;
 mod footer;
+mod laws;
 mod listing;
 mod page;
 mod reading;
@@ -17,6 +18,7 @@ mod walking;
 
 pub use chunk::Chunk;
 pub use footer::{Footer, Group, Leaf};
+pub use laws::footers_are_framed;
 pub use page::{PageHead, read_page_header};
 pub use reading::read_footer;
 pub use refusal::PqRefusal;
