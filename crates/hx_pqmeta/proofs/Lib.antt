@@ -1,0 +1,7 @@
+mod Checks
+mod Counts
+pub mod Entries
+pub mod Framing
+mod Lists
+mod Sights
+mod Walked
