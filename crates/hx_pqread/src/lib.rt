@@ -1,0 +1,9 @@
+//! The columns of a Parquet file, as lists of numbers.
+//!
+//! What is read, and which refusal comes first, is exactly what the definitions in `specs/` say.
+#![tactic(auto)]
+
+mod layout;
+mod levels;
+mod numbers;
+mod page;

@@ -1,0 +1,86 @@
+ghost use Rattle.std.specs.Prelude.{◌≡◌, ◌+◌, ◌-◌, ◌*◌, ◌++◌, ◌<◌, ◌≤◌, ◌^◌, ℕ, ℤ, List, Option, length, take, drop, IfOk, IsTrue, Ok, Err, Some, None};
+ghost use Rattle.std.specs.Option.{option_map};
+ghost use Rattle.hx_pqmeta.specs.Refusals.{AnswersOrWants};
+ghost use Rattle.hx_pqread.specs.Numbers.{given};
+ghost use Rattle.hx_pqread.specs.Levels.{levels_at};
+ghost use Rattle.hx_pqread.specs.Pages.{text_from, required_body, spread_body, levels_len, optional_body, body_values, runs_checked, head_checked, are_sizes, natural, body_at, page_behind, page_at, AddsValues};
+
+use crate::layout::Layout;
+use crate::levels::read_levels;
+use crate::numbers::{given, is_multiple, push_plain, push_spread, size};
+use hx_pqmeta::{PageHead, PqRefusal, read_page_header};
+use std::alloc::{AllocError, Global};
+
+// Adds the values of a body without levels, and answers whether the body is so many numbers and nothing else.
+#[tactic(auto, unfolding(crate::specs::Pages::required_body))]
+fn required_body(
+    values: &mut Vec<Option<i64>>,
+    is_wide: bool,
+    count: usize,
+    body: &[u8],
+) -> Result<bool, AllocError>
+    ensures { IfOk result (λ is_right. AddsValues values.old.items values.new.items is_right (required_body is_wide count body.now)) }
+{
+    if !is_multiple(body.len(), count, size(is_wide)) {
+        return Ok(false);
+    }
+    push_plain(values, is_wide, count, body)?;
+    Ok(true)
+}
+
+// Adds the values of a body with these levels, and answers whether the numbers are as many as the levels say.
+#[tactic(auto, unfolding(crate::specs::Pages::spread_body))]
+fn spread_body(
+    values: &mut Vec<Option<i64>>,
+    is_wide: bool,
+    levels: Option<Vec<u8>>,
+    numbers: &[u8],
+) -> Result<bool, AllocError>
+    ensures { IfOk result (λ is_right. AddsValues values.old.items values.new.items is_right (spread_body is_wide (option_map (λ v. v.items) levels) numbers.now)) }
+{
+    match levels {
+        None => Ok(false),
+        Some(levels) => {
+            if !is_multiple(numbers.len(), given(&levels), size(is_wide)) {
+                return Ok(false);
+            }
+            push_spread(values, is_wide, &levels, numbers)?;
+            Ok(true)
+        }
+    }
+}
+
+// The length of the levels of a body.
+fn levels_len(body: &[u8]) -> u32
+    requires { 4 ≤ length body.now }
+    ensures { result ≡ levels_len body.now }
+{
+    let (front, _) = body.split_at(4);
+    u32::from_le_bytes([front[0], front[1], front[2], front[3]])
+}
+
+// The like for a body that begins with levels.
+#[tactic(auto, unfolding(crate::specs::Pages::optional_body))]
+fn optional_body(
+    alloc: Global,
+    values: &mut Vec<Option<i64>>,
+    is_wide: bool,
+    count: usize,
+    body: &[u8],
+) -> Result<bool, AllocError>
+    requires { count < 2 ^ 31 }
+    ensures { IfOk result (λ is_right. AddsValues values.old.items values.new.items is_right (optional_body is_wide count body.now)) }
+{
+    if body.len() < 4 {
+        return Ok(false);
+    }
+    let len = levels_len(body) as usize;
+    let (_, rest) = body.split_at(4);
+    if rest.len() < len {
+        return Ok(false);
+    }
+    let (runs, _) = rest.split_at(len);
+    let (_, numbers) = body.split_at(4 + len);
+    let levels = read_levels(alloc, runs, count)?;
+    spread_body(values, is_wide, levels, numbers)
+}
