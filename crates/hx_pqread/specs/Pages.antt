@@ -84,7 +84,7 @@ page_behind column layout end left head file = do
 unfoldable pub page_at : (column : ℕ) → Layout → (end left place : ℕ) → List ℕ → Result (List (Option ℤ) × ℕ) PqRefusal
 page_at column layout end left place file =
     if nat_le 4 place && nat_lt place end
-    then page_head_at (text_from end place file) >>= λ head. page_behind column layout end left head file
+    then (page_head_at (text_from end place file) >>= λ head. page_behind column layout end left head file)
     else Err (Bounds column)
 
 -- what a call that adds a body's values to a list answers: whether the body is as it has to be

@@ -64,10 +64,9 @@ pub fn push_plain(
 
 /// Whether `len` is `count` parts of `part` bytes.
 pub fn is_multiple(len: usize, count: usize, part: usize) -> bool
-    requires { (0 < part) × (part ≤ 8) }
     ensures { result ≡ (len == count * part) }
 {
-    len % part == 0 && len / part == count
+    count.checked_mul(part) == Some(len)
 }
 
 /// How many levels say that there is a number.

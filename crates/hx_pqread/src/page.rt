@@ -84,3 +84,64 @@ fn optional_body(
     let levels = read_levels(alloc, runs, count)?;
     spread_body(values, is_wide, levels, numbers)
 }
+
+// The values of a body of so many.
+fn body_values(
+    alloc: Global,
+    values: &mut Vec<Option<i64>>,
+    layout: Layout,
+    count: usize,
+    body: &[u8],
+) -> Result<bool, AllocError>
+    requires { count < 2 ^ 31 }
+    ensures { IfOk result (λ is_right. AddsValues values.old.items values.new.items is_right (body_values layout count body.now)) }
+{
+    if layout.is_optional {
+        optional_body(alloc, values, layout.is_wide, count, body)
+    } else {
+        required_body(values, layout.is_wide, count, body)
+    }
+}
+
+// A head that is read further.
+#[tactic(auto, unfolding(crate::specs::Pages::head_checked))]
+fn head_checked(column: u32, layout: Layout, head: PageHead) -> Result<PageHead, PqRefusal>
+    ensures { result ≡ head_checked column layout head }
+{
+    if head.kind != 0 || head.encoding != 0 {
+        return Err(PqRefusal::Encoding { column });
+    }
+    if layout.is_optional {
+        runs_checked(column, head)
+    } else {
+        Ok(head)
+    }
+}
+
+fn runs_checked(column: u32, head: PageHead) -> Result<PageHead, PqRefusal>
+    ensures { result ≡ runs_checked column head }
+{
+    match head.levels {
+        None => Err(PqRefusal::Missing { field: 703 }),
+        Some(3) => Ok(head),
+        Some(_) => Err(PqRefusal::Encoding { column }),
+    }
+}
+
+// Whether a head's counts fit where `room` bytes stand behind it and `left` values are to come.
+fn are_sizes(left: u64, room: u64, plain_size: i32, stored_size: i32, values: i32) -> bool
+    ensures { result ≡ are_sizes left room plain_size stored_size values }
+{
+    0 <= plain_size
+        && plain_size == stored_size
+        && 0 <= values
+        && stored_size as u64 <= room
+        && values as u64 <= left
+}
+
+fn natural(number: i32) -> usize
+    ensures small { result < 2 ^ 31 }
+    ensures value { result ≡ natural number }
+{
+    if number < 0 { 0 } else { number as usize }
+}
