@@ -1,3 +1,4 @@
 mod Bodies
+mod Columns
 mod Heads
 mod Runs

@@ -1,13 +1,14 @@
 -- A data page of a column, which stands at a place of a file: its values and the place behind it, or the first refusal.
-use Rattle.std.specs.Prelude.{◌≡◌, ℕ, ℤ, pos, negsuc, ◌+◌, ◌-◌, ◌*◌, List, [], ◌∷◌, ◌++◌, length, take, drop, Bool, true, false, ◌&&◌, ◌==◌, nat_le, nat_lt, Option, Some, None, Result, Ok, Err, if◌then◌else◌}
+use Rattle.std.specs.Prelude.{◌≡◌, ◌⊎◌, ℕ, zero, suc, ℤ, pos, negsuc, ◌+◌, ◌-◌, ◌*◌, List, [], ◌∷◌, ◌++◌, length, take, drop, Bool, true, false, ◌&&◌, ◌==◌, nat_le, nat_lt, Option, Some, None, Result, Ok, Err, if◌then◌else◌}
 use Rattle.std.specs.Int.{w32, from_le_bytes}
 use Rattle.std.specs.Ordering.{int_eq}
 use Rattle.hx_thrift.specs.Texts.{Text}
 use Rattle.hx_pqmeta.specs.declared.page.PageHead.{PageHead}
 use Rattle.hx_pqmeta.specs.declared.refusal.PqRefusal.{PqRefusal}
-use Rattle.hx_pqmeta.specs.declared.refusal.PqRefusal.TheVariants.{Encoding, Bounds}
+use Rattle.hx_pqmeta.specs.declared.refusal.PqRefusal.TheVariants.{Memory, Encoding, Bounds}
 use Rattle.hx_pqmeta.specs.Refusals.{◌>>=◌, needed}
 use Rattle.hx_pqmeta.specs.PageHeaders.{page_head_at}
+use Rattle.hx_pqread.specs.declared.layout.Asked.{Asked}
 use Rattle.hx_pqread.specs.declared.layout.Layout.{Layout}
 use Rattle.hx_pqread.specs.Levels.{levels_at}
 use Rattle.hx_pqread.specs.Numbers.{width, size, plain, spread, given}
@@ -65,29 +66,48 @@ abbrev pub bounded : {A : Type 0} → (column : ℕ) → Option A → Result A P
 bounded column (Some x) = Ok x
 bounded column None = Err (Bounds column)
 
--- the body behind a head: its bytes, which are there whole
-unfoldable pub body_at : (column end left : ℕ) → PageHead → List ℕ → Result (List ℕ) PqRefusal
-body_at column end left head file =
-    if are_sizes left (end - head.next) head.plain_size head.stored_size head.values
+-- the body behind a head: its bytes, which are there whole before the footer
+unfoldable pub body_at : Asked → (left : ℕ) → PageHead → List ℕ → Result (List ℕ) PqRefusal
+body_at asked left head file =
+    if are_sizes left (asked.end - head.next) head.plain_size head.stored_size head.values
     then Ok (take (natural head.stored_size) (drop head.next file))
-    else Err (Bounds column)
+    else Err (Bounds asked.column)
 
 -- the values of the page with this head, and the place behind it
-unfoldable pub page_behind : (column : ℕ) → Layout → (end left : ℕ) → PageHead → List ℕ → Result (List (Option ℤ) × ℕ) PqRefusal
-page_behind column layout end left head file = do
-  checked ← head_checked column layout head
-  body ← body_at column end left checked file
-  values ← bounded column (body_values layout (natural checked.values) body)
+unfoldable pub page_behind : Asked → (left : ℕ) → PageHead → List ℕ → Result (List (Option ℤ) × ℕ) PqRefusal
+page_behind asked left head file = do
+  checked ← head_checked asked.column asked.layout head
+  body ← body_at asked left checked file
+  values ← bounded asked.column (body_values asked.layout (natural checked.values) body)
   Ok (values, checked.next + natural checked.stored_size)
 
--- The page at a place of a column of which left values are to come. Pages stand behind the file's first four bytes and before the footer, which begins at end.
-unfoldable pub page_at : (column : ℕ) → Layout → (end left place : ℕ) → List ℕ → Result (List (Option ℤ) × ℕ) PqRefusal
-page_at column layout end left place file =
-    if nat_le 4 place && nat_lt place end
-    then (page_head_at (text_from end place file) >>= λ head. page_behind column layout end left head file)
-    else Err (Bounds column)
+-- The page at a place of a column of which left values are to come. Pages stand behind the file's first four bytes and before the footer.
+unfoldable pub page_at : Asked → (left place : ℕ) → List ℕ → Result (List (Option ℤ) × ℕ) PqRefusal
+page_at asked left place file =
+    if nat_le 4 place && nat_lt place asked.end
+    then (page_head_at (text_from asked.end place file) >>= λ head. page_behind asked left head file)
+    else Err (Bounds asked.column)
+
+-- So many values, from pages one after another; none is read where no value is to come. Of n bytes at most n begin a page.
+unfoldable pub pages_at : Asked → (most left place : ℕ) → List ℕ → Result (List (Option ℤ)) PqRefusal
+pages_at asked most zero place file = Ok []
+pages_at asked zero (suc left) place file = Err (Bounds asked.column)
+pages_at asked (suc most) (suc left) place file = do
+  page ← page_at asked (suc left) place file
+  more ← pages_at asked most (suc left - length page.0) page.1 file
+  Ok (page.0 ++ more)
 
 -- what a call that adds a body's values to a list answers: whether the body is as it has to be
 abbrev pub AddsValues : (old new : List (Option ℤ)) → (is_right : Bool) → Option (List (Option ℤ)) → Type 0
 AddsValues old new true body = (values : List (Option ℤ)) × (body ≡ Some values) × (new ≡ old ++ values)
 AddsValues old new false body = body ≡ None
+
+-- what a call that adds a page's values to a list answers: the place behind the page, or the first refusal; or want of memory
+abbrev pub AddsPage : (old new : List (Option ℤ)) → Result ℕ PqRefusal → Result (List (Option ℤ) × ℕ) PqRefusal → Type 0
+AddsPage old new (Ok next) page = (values : List (Option ℤ)) × (page ≡ Ok (values, next)) × (new ≡ old ++ values)
+AddsPage old new (Err refusal) page = (refusal ≡ Memory) ⊎ (page ≡ Err refusal)
+
+-- the like for a call that adds the values of several pages
+abbrev pub AddsPages : {X : Type 0} → (old new : List (Option ℤ)) → Result X PqRefusal → Result (List (Option ℤ)) PqRefusal → Type 0
+AddsPages old new (Ok done) pages = (values : List (Option ℤ)) × (pages ≡ Ok values) × (new ≡ old ++ values)
+AddsPages old new (Err refusal) pages = (refusal ≡ Memory) ⊎ (pages ≡ Err refusal)

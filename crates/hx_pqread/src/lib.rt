@@ -3,6 +3,7 @@
 //! What is read, and which refusal comes first, is exactly what the definitions in `specs/` say.
 #![tactic(auto)]
 
+mod chunk;
 mod layout;
 mod levels;
 mod numbers;

@@ -3,9 +3,9 @@ ghost use Rattle.std.specs.Option.{option_map};
 ghost use Rattle.hx_pqmeta.specs.Refusals.{AnswersOrWants};
 ghost use Rattle.hx_pqread.specs.Numbers.{given};
 ghost use Rattle.hx_pqread.specs.Levels.{levels_at};
-ghost use Rattle.hx_pqread.specs.Pages.{text_from, required_body, spread_body, levels_len, optional_body, body_values, runs_checked, head_checked, are_sizes, natural, body_at, page_behind, page_at, AddsValues};
+ghost use Rattle.hx_pqread.specs.Pages.{text_from, required_body, spread_body, levels_len, optional_body, body_values, runs_checked, head_checked, are_sizes, natural, body_at, page_behind, page_at, pages_at, AddsValues, AddsPage, AddsPages};
 
-use crate::layout::Layout;
+use crate::layout::{Asked, Layout};
 use crate::levels::read_levels;
 use crate::numbers::{given, is_multiple, push_plain, push_spread, size};
 use hx_pqmeta::{PageHead, PqRefusal, read_page_header};
@@ -106,7 +106,8 @@ fn body_values(
 // A head that is read further.
 #[tactic(auto, unfolding(crate::specs::Pages::head_checked))]
 fn head_checked(column: u32, layout: Layout, head: PageHead) -> Result<PageHead, PqRefusal>
-    ensures { result ≡ head_checked column layout head }
+    ensures same { IfOk result (λ checked. checked ≡ head) }
+    ensures value { result ≡ head_checked column layout head }
 {
     if head.kind != 0 || head.encoding != 0 {
         return Err(PqRefusal::Encoding { column });
@@ -119,7 +120,8 @@ fn head_checked(column: u32, layout: Layout, head: PageHead) -> Result<PageHead,
 }
 
 fn runs_checked(column: u32, head: PageHead) -> Result<PageHead, PqRefusal>
-    ensures { result ≡ runs_checked column head }
+    ensures same { IfOk result (λ checked. checked ≡ head) }
+    ensures value { result ≡ runs_checked column head }
 {
     match head.levels {
         None => Err(PqRefusal::Missing { field: 703 }),
@@ -130,7 +132,8 @@ fn runs_checked(column: u32, head: PageHead) -> Result<PageHead, PqRefusal>
 
 // Whether a head's counts fit where `room` bytes stand behind it and `left` values are to come.
 fn are_sizes(left: u64, room: u64, plain_size: i32, stored_size: i32, values: i32) -> bool
-    ensures { result ≡ are_sizes left room plain_size stored_size values }
+    ensures room { IsTrue result → natural stored_size ≤ room }
+    ensures value { result ≡ are_sizes left room plain_size stored_size values }
 {
     0 <= plain_size
         && plain_size == stored_size
@@ -144,4 +147,111 @@ fn natural(number: i32) -> usize
     ensures value { result ≡ natural number }
 {
     if number < 0 { 0 } else { number as usize }
+}
+
+// The body behind a head.
+#[tactic(auto, unfolding(crate::specs::Pages::body_at))]
+fn body_at<'a>(
+    asked: Asked,
+    left: u64,
+    head: PageHead,
+    file: &'a [u8],
+) -> Result<&'a [u8], PqRefusal>
+    requires { (head.next ≤ asked.end) × (asked.end ≤ length file.now) }
+    ensures room { IfOk result (λ _. head.next + natural head.stored_size ≤ asked.end) }
+    ensures value { AnswersOrWants (λ body. body.now) result (body_at asked left head file.now) }
+{
+    if !are_sizes(
+        left,
+        asked.end - head.next,
+        head.plain_size,
+        head.stored_size,
+        head.values,
+    ) {
+        return Err(PqRefusal::Bounds {
+            column: asked.column,
+        });
+    }
+    let (_, rest) = file.split_at(head.next as usize);
+    let (body, _) = rest.split_at(natural(head.stored_size));
+    Ok(body)
+}
+
+// Adds the values of the page with this head, and gives the place behind it.
+#[tactic(auto, unfolding(crate::specs::Pages::page_behind))]
+fn page_behind(
+    alloc: Global,
+    values: &mut Vec<Option<i64>>,
+    asked: Asked,
+    left: u64,
+    head: PageHead,
+    file: &[u8],
+) -> Result<u64, PqRefusal>
+    requires { (head.next ≤ asked.end) × (asked.end ≤ length file.now) }
+    ensures { AddsPage values.old.items values.new.items result (page_behind asked left head file.now) }
+{
+    let head = head_checked(asked.column, asked.layout, head)?;
+    let body = body_at(asked, left, head, file)?;
+    if body_values(alloc, values, asked.layout, natural(head.values), body)? {
+        Ok(head.next + natural(head.stored_size) as u64)
+    } else {
+        Err(PqRefusal::Bounds {
+            column: asked.column,
+        })
+    }
+}
+
+// Adds the values of the page at a place, and gives the place behind it.
+#[tactic(auto, unfolding(crate::specs::Pages::page_at))]
+fn page_at(
+    alloc: Global,
+    values: &mut Vec<Option<i64>>,
+    asked: Asked,
+    left: u64,
+    place: u64,
+    file: &[u8],
+) -> Result<u64, PqRefusal>
+    requires { asked.end ≤ length file.now }
+    ensures { AddsPage values.old.items values.new.items result (page_at asked left place file.now) }
+{
+    if place < 4 || asked.end <= place {
+        return Err(PqRefusal::Bounds {
+            column: asked.column,
+        });
+    }
+    let (_, rest) = file.split_at(place as usize);
+    let (text, _) = rest.split_at((asked.end - place) as usize);
+    let head = read_page_header(text, place)?;
+    page_behind(alloc, values, asked, left, head, file)
+}
+
+/// Adds `count` values, from pages one after another, the first of which stands at `place`.
+pub fn read_pages(
+    alloc: Global,
+    values: &mut Vec<Option<i64>>,
+    asked: Asked,
+    count: u64,
+    place: u64,
+    file: &[u8],
+) -> Result<(), PqRefusal>
+    requires { asked.end ≤ length file.now }
+    ensures { AddsPages values.old.items values.new.items result (pages_at asked asked.end count place file.now) }
+{
+    let mut left = count;
+    let mut place = place;
+    for _ in 0..asked.end {
+        if left == 0 {
+            return Ok(());
+        }
+        let before = values.len();
+        place = page_at(alloc, values, asked, left, place, file)?;
+        left = left.saturating_sub((values.len() - before) as u64);
+    }
+    if left == 0 {
+        Ok(())
+    } else {
+        Err(PqRefusal::Bounds {
+            column: asked.column,
+        })
+    }
 }

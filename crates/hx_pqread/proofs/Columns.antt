@@ -1,0 +1,53 @@
+-- Values of pages, one page after another.
+use Rattle.std.proofs.Common.{◌≡◌, ◌⊎◌, inl, inr, ℕ, zero, suc, ◌+◌, ◌-◌, ◌<◌, ℤ, List, [], ◌∷◌, ◌++◌, length, Option, Some, None, Result, Ok, Err, refl, sym, ap, ◌∙◌, append_assoc, arith}
+use Rattle.std.proofs.lemmas.List.{append-nil}
+use Rattle.hx_pqmeta.specs.declared.refusal.PqRefusal.{PqRefusal}
+use Rattle.hx_pqmeta.specs.declared.refusal.PqRefusal.TheVariants.{Memory, Bounds}
+use Rattle.hx_pqmeta.specs.Refusals.{◌>>=◌}
+use Rattle.hx_pqread.specs.declared.layout.Asked.{Asked}
+use Rattle.hx_pqread.specs.Pages.{page_at, pages_at}
+
+-- the values so far, and those still to come
+abbrev pub with_values : List (Option ℤ) → Result (List (Option ℤ)) PqRefusal → Result (List (Option ℤ)) PqRefusal
+with_values front read = read >>= λ more. Ok (front ++ more)
+
+pub over : (front page : List (Option ℤ)) (read : Result (List (Option ℤ)) PqRefusal) → with_values front (read >>= λ more. Ok (page ++ more)) ≡ with_values (front ++ page) read
+over front page (Err refusal) = refl
+over front page (Ok more) = ap (λ (xs : List (Option ℤ)). Ok xs) (sym (append_assoc front page more))
+
+pub from_none : (read : Result (List (Option ℤ)) PqRefusal) → with_values [] read ≡ read
+from_none (Err refusal) = refl
+from_none (Ok xs) = refl
+
+pub next_page : (asked : Asked) (most less left place next : ℕ) (file : List ℕ) (front page : List (Option ℤ)) → page_at asked left place file ≡ Ok (page, next) → most ≡ less + 1 → 0 < left
+    → with_values front (pages_at asked most left place file) ≡ with_values (front ++ page) (pages_at asked less (left - length page) next file)
+unfolding pages_at
+next_page asked most less zero place next file front page e k some = absurd (omega arith)
+next_page asked zero less (suc left) place next file front page e k some = absurd (omega arith)
+next_page asked (suc most) less (suc left) place next file front page e k some =
+    let same : most ≡ less = omega arith in
+    rw (e, same) (over front page (pages_at asked less (suc left - length page) next file))
+
+pub no_page : (asked : Asked) (most left place : ℕ) (file : List ℕ) (front : List (Option ℤ)) (refusal : PqRefusal) → page_at asked left place file ≡ Err refusal → 0 < most → 0 < left
+    → with_values front (pages_at asked most left place file) ≡ Err refusal
+unfolding pages_at
+no_page asked most zero place file front refusal e k some = absurd (omega arith)
+no_page asked zero (suc left) place file front refusal e k some = absurd (omega arith)
+no_page asked (suc most) (suc left) place file front refusal e k some = rw e refl
+
+pub all_pages : (asked : Asked) (most left place : ℕ) (file : List ℕ) (front : List (Option ℤ)) → left ≡ 0 → with_values front (pages_at asked most left place file) ≡ Ok front
+unfolding pages_at
+all_pages asked zero zero place file front k = ap (λ (xs : List (Option ℤ)). Ok xs) (append-nil front)
+all_pages asked (suc most) zero place file front k = ap (λ (xs : List (Option ℤ)). Ok xs) (append-nil front)
+all_pages asked most (suc left) place file front k = absurd (omega arith)
+
+pub too_few_pages : (asked : Asked) (most left place : ℕ) (file : List ℕ) (front : List (Option ℤ)) → most ≡ 0 → 0 < left → with_values front (pages_at asked most left place file) ≡ Err (Bounds asked.column)
+unfolding pages_at
+too_few_pages asked most zero place file front k some = absurd (omega arith)
+too_few_pages asked zero (suc left) place file front k some = refl
+too_few_pages asked (suc most) (suc left) place file front k some = absurd (omega arith)
+
+-- a refusal of a part is that of all
+pub refused : {X Y : Type 0} (refusal : PqRefusal) (part : Result X PqRefusal) (all : Result Y PqRefusal) → (refusal ≡ Memory) ⊎ (part ≡ Err refusal) → (part ≡ Err refusal → all ≡ Err refusal) → (refusal ≡ Memory) ⊎ (all ≡ Err refusal)
+refused refusal part all (inl want) passes = inl want
+refused refusal part all (inr is) passes = inr (passes is)
