@@ -3,7 +3,7 @@ use Rattle.std.proofs.Common.{◌≡◌, ◌⊎◌, inl, inr, ℕ, zero, suc, �
 use Rattle.std.proofs.lemmas.List.{append-nil}
 use Rattle.hx_pqmeta.specs.declared.refusal.PqRefusal.{PqRefusal}
 use Rattle.hx_pqmeta.specs.declared.refusal.PqRefusal.TheVariants.{Memory, Bounds}
-use Rattle.hx_pqmeta.specs.Refusals.{◌>>=◌}
+use Rattle.hx_pqmeta.specs.Refusals.{◌>>=◌, each}
 use Rattle.hx_pqread.specs.declared.layout.Asked.{Asked}
 use Rattle.hx_pqread.specs.Pages.{page_at, pages_at}
 
@@ -51,3 +51,32 @@ too_few_pages asked (suc most) (suc left) place file front k some = absurd (omeg
 pub refused : {X Y : Type 0} (refusal : PqRefusal) (part : Result X PqRefusal) (all : Result Y PqRefusal) → (refusal ≡ Memory) ⊎ (part ≡ Err refusal) → (part ≡ Err refusal → all ≡ Err refusal) → (refusal ≡ Memory) ⊎ (all ≡ Err refusal)
 refused refusal part all (inl want) passes = inl want
 refused refusal part all (inr is) passes = inr (passes is)
+
+-- the one that there is, or none
+abbrev pub listed : {A : Type 0} → Option A → List A
+listed None = []
+listed (Some x) = x ∷ []
+
+-- ---- checks of each of a list, in order
+
+-- what was made before, and what is still to be made
+abbrev pub each_from : {A B : Type 0} → (A → Result B PqRefusal) → List B → List A → Result (List B) PqRefusal
+each_from check front xs = each check xs >>= λ ys. Ok (front ++ ys)
+
+pub each_start : {A B : Type 0} (check : A → Result B PqRefusal) (xs : List A) → each_from check [] xs ≡ each check xs
+each_start check xs = same (each check xs) where
+  same : {B : Type 0} (made : Result (List B) PqRefusal) → made >>= (λ ys. Ok ([] ++ ys)) ≡ made
+  same (Ok ys) = refl
+  same (Err refusal) = refl
+
+pub each_next : {A B : Type 0} (check : A → Result B PqRefusal) (front : List B) (x : A) (xs : List A) (y : B) → check x ≡ Ok y → each_from check front (x ∷ xs) ≡ each_from check (front ++ y ∷ []) xs
+each_next check front x xs y is = rw is (beyond front y (each check xs)) where
+  beyond : {B : Type 0} (front : List B) (y : B) (made : Result (List B) PqRefusal) → (made >>= (λ ys. Ok (y ∷ ys))) >>= (λ ys. Ok (front ++ ys)) ≡ made >>= (λ ys. Ok ((front ++ y ∷ []) ++ ys))
+  beyond {B = B} front y (Ok ys) = ap (λ (zs : List B). Ok zs) (simp append_assoc)
+  beyond front y (Err refusal) = refl
+
+pub each_stop : {A B : Type 0} (check : A → Result B PqRefusal) (front : List B) (x : A) (xs : List A) (refusal : PqRefusal) → check x ≡ Err refusal → each_from check front (x ∷ xs) ≡ Err refusal
+each_stop check front x xs refusal is = rw is refl
+
+pub each_end : {A B : Type 0} (check : A → Result B PqRefusal) (front : List B) → each_from check front [] ≡ Ok front
+each_end {B = B} check front = ap (λ (ys : List B). Ok ys) (append-nil front)

@@ -1,6 +1,6 @@
 -- The columns of a whole file: their values, or the first refusal.
 use Rattle.std.specs.Prelude.{◌≡◌, ◌⊎◌, ℕ, zero, suc, ℤ, pos, ◌+◌, List, [], ◌∷◌, ◌++◌, length, map, min, Bool, true, false, not, nat_eq, ◌==◌, slice_get, Option, Some, None, Result, Ok, Err, if◌then◌else◌}
-use Rattle.std.specs.List.{list_eq}
+use Rattle.std.specs.Cmp.Lexicographic.{pointwise}
 use Rattle.std.specs.Ordering.{int_eq}
 use Rattle.hx_pqmeta.specs.declared.chunk.Chunk.{Chunk}
 use Rattle.hx_pqmeta.specs.declared.refusal.PqRefusal.{PqRefusal}
@@ -18,7 +18,7 @@ use Rattle.hx_pqread.specs.Pages.{natural, bounded, pages_at}
 -- the places of the leaves with a name, where the first leaf has the place at
 abbrev pub places_of : (name : List ℕ) → (at : ℕ) → List LeafRecord → List ℕ
 places_of name at [] = []
-places_of name at (leaf ∷ leaves) = if list_eq nat_eq leaf.name name then at ∷ places_of name (at + 1) leaves else places_of name (at + 1) leaves
+places_of name at (leaf ∷ leaves) = if pointwise nat_eq leaf.name name then at ∷ places_of name (at + 1) leaves else places_of name (at + 1) leaves
 
 -- the one place, where there is exactly one
 abbrev pub only : (column : ℕ) → List ℕ → Result ℕ PqRefusal

@@ -1,5 +1,5 @@
 ghost use Rattle.std.specs.Prelude.{◌≡◌, ◌<◌, ◌^◌, ℤ, slice_get, IfOk};
-ghost use Rattle.hx_pqmeta.specs.Refusals.{AnswersOrWants, each};
+ghost use Rattle.hx_pqmeta.specs.Refusals.{AnswersOrWants, needed, each};
 ghost use Rattle.hx_pqmeta.specs.Footers.{is_above_zero};
 ghost use Rattle.hx_pqread.specs.Pages.{natural};
 ghost use Rattle.hx_pqread.specs.Columns.{span_with, chunk_span, group_span};
@@ -32,7 +32,7 @@ fn is_above_zero(number: Option<i64>) -> bool
 }
 
 fn needed(value: Option<i64>, field: u16) -> Result<i64, PqRefusal>
-    ensures { result ≡ Rattle.hx_pqmeta.specs.Refusals.needed field value }
+    ensures { result ≡ needed field value }
 {
     value.ok_or(PqRefusal::Missing { field })
 }

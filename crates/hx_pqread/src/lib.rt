@@ -5,6 +5,7 @@
 
 mod chunk;
 mod layout;
+mod leaf;
 mod levels;
 mod numbers;
 mod page;
