@@ -1,4 +1,4 @@
 mod Bodies
-mod Columns
 mod Heads
+mod Joins
 mod Runs

@@ -4,7 +4,7 @@ use Rattle.std.specs.Cmp.Lexicographic.{pointwise}
 use Rattle.std.specs.Ordering.{int_eq}
 use Rattle.hx_pqmeta.specs.declared.chunk.Chunk.{Chunk}
 use Rattle.hx_pqmeta.specs.declared.refusal.PqRefusal.{PqRefusal}
-use Rattle.hx_pqmeta.specs.declared.refusal.PqRefusal.TheVariants.{Column, Codec, Encoding, Bounds, Null, Missing}
+use Rattle.hx_pqmeta.specs.declared.refusal.PqRefusal.TheVariants.{Memory, Column, Codec, Encoding, Bounds, Null, Missing}
 use Rattle.hx_pqmeta.specs.Records.{LeafRecord, GroupRecord, FooterRecord}
 use Rattle.hx_pqmeta.specs.Refusals.{◌>>=◌, needed, each}
 use Rattle.hx_pqmeta.specs.Footers.{is_above_zero, footer_in}
@@ -67,7 +67,7 @@ group_span column place group = do
   chunk_span column group.rows chunk
 
 -- the values of spans, one after another
-unfoldable pub spans_at : Asked → List Span → List ℕ → Result (List (Option ℤ)) PqRefusal
+abbrev pub spans_at : Asked → List Span → List ℕ → Result (List (Option ℤ)) PqRefusal
 spans_at asked [] file = Ok []
 spans_at asked (span ∷ spans) file = do
   front ← pages_at asked asked.end span.count span.place file
@@ -125,3 +125,8 @@ columns_in file names = do
   footer ← footer_in file
   columns ← columns_at footer file 0 names
   unless_absent (least_absent columns) (map present columns)
+
+-- A call has answered, of columns that are read, the values that are there and the least row at which one is absent; or the first refusal; or want of memory.
+abbrev pub AnswersColumns : {X : Type 0} → (lists : X → List (List ℤ)) → (absent : X → Option ℕ) → Result X PqRefusal → Result (List (List (Option ℤ))) PqRefusal → Type 0
+AnswersColumns lists absent (Ok x) read = (columns : List (List (Option ℤ))) × (read ≡ Ok columns) × (lists x ≡ map present columns) × (absent x ≡ least_absent columns)
+AnswersColumns lists absent (Err refusal) read = (refusal ≡ Memory) ⊎ (read ≡ Err refusal)

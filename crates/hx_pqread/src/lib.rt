@@ -4,8 +4,14 @@
 #![tactic(auto)]
 
 mod chunk;
+mod column;
+mod file;
 mod layout;
 mod leaf;
 mod levels;
+mod lists;
 mod numbers;
 mod page;
+
+pub use file::columns;
+pub use lists::Columns;

@@ -1,7 +1,7 @@
 use Rattle.std.proofs.Common.{◌≡◌, drop}
 use Rattle.hx_pqmeta.specs.Refusals.{each}
 use Rattle.hx_pqread.specs.Columns.{group_span}
-use Rattle.hx_pqread.proofs.Columns.{each_from}
+use Rattle.hx_pqread.proofs.Joins.{each_from}
 use Rattle.hx_pqread.proofs.chunk.spans_of.Given as goal
 
 abbrev pub invariant-loop-group : goal.invariant-loop-group

@@ -1,6 +1,6 @@
 use Rattle.std.proofs.Common.{◌≡◌, ◌++◌, drop}
 use Rattle.hx_pqread.specs.Columns.{places_of}
-use Rattle.hx_pqread.proofs.Columns.{listed}
+use Rattle.hx_pqread.proofs.Joins.{listed}
 use Rattle.hx_pqread.proofs.leaf.place_of.Given as goal
 
 abbrev pub invariant-loop-place : goal.invariant-loop-place

@@ -1,6 +1,6 @@
 use Rattle.std.proofs.Common.{◌≡◌, ◌-◌, ◌++◌, List, ℤ, Option}
 use Rattle.hx_pqread.specs.Pages.{pages_at}
-use Rattle.hx_pqread.proofs.Columns.{with_values}
+use Rattle.hx_pqread.proofs.Joins.{with_values}
 use Rattle.hx_pqread.proofs.page.read_pages.Given as goal
 
 abbrev pub invariant-loop : goal.invariant-loop

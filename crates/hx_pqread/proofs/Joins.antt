@@ -1,11 +1,14 @@
 -- Values of pages, one page after another.
-use Rattle.std.proofs.Common.{◌≡◌, ◌⊎◌, inl, inr, ℕ, zero, suc, ◌+◌, ◌-◌, ◌<◌, ℤ, List, [], ◌∷◌, ◌++◌, length, Option, Some, None, Result, Ok, Err, refl, sym, ap, ◌∙◌, append_assoc, arith}
-use Rattle.std.proofs.lemmas.List.{append-nil}
+use Rattle.std.proofs.Common.{◌≡◌, ◌⊎◌, inl, inr, ℕ, zero, suc, ◌+◌, ◌-◌, ◌<◌, ℤ, List, [], ◌∷◌, ◌++◌, length, map, Option, Some, None, Result, Ok, Err, refl, sym, ap, ◌∙◌, append_assoc, arith}
+use Rattle.std.proofs.lemmas.List.{append-nil, map-append}
 use Rattle.hx_pqmeta.specs.declared.refusal.PqRefusal.{PqRefusal}
 use Rattle.hx_pqmeta.specs.declared.refusal.PqRefusal.TheVariants.{Memory, Bounds}
 use Rattle.hx_pqmeta.specs.Refusals.{◌>>=◌, each}
 use Rattle.hx_pqread.specs.declared.layout.Asked.{Asked}
+use Rattle.hx_pqread.specs.declared.chunk.Span.{Span}
 use Rattle.hx_pqread.specs.Pages.{page_at, pages_at}
+use Rattle.hx_pqread.specs.Columns.{spans_at, column_at, columns_at, first_absent, lesser, least_absent, present, unless_absent}
+use Rattle.hx_pqmeta.specs.Records.{FooterRecord}
 
 -- the values so far, and those still to come
 abbrev pub with_values : List (Option ℤ) → Result (List (Option ℤ)) PqRefusal → Result (List (Option ℤ)) PqRefusal
@@ -80,3 +83,43 @@ each_stop check front x xs refusal is = rw is refl
 
 pub each_end : {A B : Type 0} (check : A → Result B PqRefusal) (front : List B) → each_from check front [] ≡ Ok front
 each_end {B = B} check front = ap (λ (ys : List B). Ok ys) (append-nil front)
+
+-- ---- the columns of names
+
+-- the columns so far, and those still to come
+abbrev pub with_columns : List (List (Option ℤ)) → Result (List (List (Option ℤ))) PqRefusal → Result (List (List (Option ℤ))) PqRefusal
+with_columns front read = read >>= λ more. Ok (front ++ more)
+
+lesser_again : (a b c : Option ℕ) → lesser a (lesser b c) ≡ lesser (lesser a b) c
+lesser_again None b c = refl
+lesser_again (Some a) None c = refl
+lesser_again (Some a) (Some b) None = refl
+lesser_again (Some a) (Some b) (Some c) = ap (λ (n : ℕ). Some n) (omega arith)
+
+pub one_column : (front : List (List (Option ℤ))) (values : List (Option ℤ)) → least_absent (front ++ values ∷ []) ≡ lesser (least_absent front) (first_absent 0 values)
+one_column [] values = nothing (first_absent 0 values) where
+  nothing : (row : Option ℕ) → lesser row None ≡ row
+  nothing None = refl
+  nothing (Some row) = refl
+one_column (first ∷ front) values = ap (λ (row : Option ℕ). lesser (first_absent 0 first) row) (one_column front values) ∙ lesser_again (first_absent 0 first) (least_absent front) (first_absent 0 values)
+
+pub next_column : (footer : FooterRecord) (file : List ℕ) (column : ℕ) (name : List ℕ) (names : List (List ℕ)) (front : List (List (Option ℤ))) (values : List (Option ℤ)) → column_at footer file column name ≡ Ok values
+    → with_columns front (columns_at footer file column (name ∷ names)) ≡ with_columns (front ++ values ∷ []) (columns_at footer file (column + 1) names)
+next_column footer file column name names front values e = rw e (beyond (columns_at footer file (column + 1) names)) where
+  beyond : (read : Result (List (List (Option ℤ))) PqRefusal) → with_columns front (read >>= λ more. Ok (values ∷ more)) ≡ with_columns (front ++ values ∷ []) read
+  beyond (Err refusal) = refl
+  beyond (Ok more) = ap (λ (xs : List (List (Option ℤ))). Ok xs) (simp append_assoc)
+
+pub no_column : (footer : FooterRecord) (file : List ℕ) (column : ℕ) (name : List ℕ) (names : List (List ℕ)) (front : List (List (Option ℤ))) (refusal : PqRefusal) → column_at footer file column name ≡ Err refusal
+    → with_columns front (columns_at footer file column (name ∷ names)) ≡ Err refusal
+no_column footer file column name names front refusal e = rw e refl
+
+pub all_columns : (footer : FooterRecord) (file : List ℕ) (column : ℕ) (front : List (List (Option ℤ))) → with_columns front (columns_at footer file column []) ≡ Ok front
+all_columns footer file column front = ap (λ (xs : List (List (Option ℤ))). Ok xs) (append-nil front)
+
+pub ok_is : (a b : ℕ) (first second : Result ℕ PqRefusal) → first ≡ Ok a → second ≡ Ok b → first ≡ second → a ≡ b
+ok_is a b first second x y e = cc
+
+pub pushed : {V : Type 0} (before now : List V) (list : V) (items : V → List ℤ) (front : List (List (Option ℤ))) (values : List (Option ℤ)) → now ≡ before ++ list ∷ [] → map items before ≡ map present front → items list ≡ present values
+    → map items now ≡ map present (front ++ values ∷ [])
+pushed before now list items front values e so_far one = rw (e, map-append items before (list ∷ []), map-append present front (values ∷ []), so_far, one) refl
