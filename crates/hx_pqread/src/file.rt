@@ -2,8 +2,8 @@ ghost use Rattle.std.specs.Prelude.{◌≡◌, ◌≤◌, map, length, string_by
 ghost use Rattle.hx_pqmeta.specs.Refusals.{AnswersOrWants};
 ghost use Rattle.hx_pqread.specs.Columns.{columns_at, lesser, least_absent, present, unless_absent, columns_in, AnswersColumns};
 
-use crate::lists::Columns;
 use crate::column::{first_absent, present, read_column};
+use crate::lists::Columns;
 use hx_pqmeta::{Footer, PqRefusal, read_footer};
 use std::alloc::Global;
 

@@ -15,3 +15,6 @@ mod page;
 
 pub use file::columns;
 pub use lists::Columns;
+
+#[cfg(test)]
+mod tests;

@@ -22,6 +22,13 @@ impl Columns {
         Columns { lists }
     }
 
+    /// How many columns there are.
+    pub fn count(&self) -> usize
+        ensures { result ≡ length self.now }
+    {
+        self.lists.len()
+    }
+
     /// The numbers of the column of the name at `i`.
     pub fn column(&self, i: usize) -> &[i64]
         requires { i < length self.now }

@@ -16,7 +16,7 @@ loop-i-preserved c =
     let read : column_at footer file i (string_bytes (get_or c.args.names.now i c.index-names-i.result)) ≡ Ok values = rw (← name, number) c.in_ok-values.ensures in
     let one : c.in_ok-list.list.items ≡ present values = c.in_ok-list.ensures ∙ ap present c.deref-in-loop-i.ensures.value in
     let row : c.lesser-absent.result ≡ least_absent (front ++ values ∷ []) =
-        rw (one_column front values) (c.lesser-absent.ensures ∙ rw (c.loop-i.invariant.2, c.first_absent.ensures, c.deref.ensures.value) refl) in
+    rw (one_column front values) (c.lesser-absent.ensures ∙ rw (c.loop-i.invariant.2, c.first_absent.ensures, c.deref.ensures.value) refl) in
     let lists = pushed c.loop-i.lists.items c.push.new.self.items c.in_ok-list.list (λ list. list.items) front values c.in_ok-push.ensures.items c.loop-i.invariant.1 one in
     let first = at_drop_more (λ xs. with_columns front (columns_at footer file i (map string_bytes xs))) c.args.names.now i c.index-names-i.result (omega arith) in
     let next = next_column footer file i (string_bytes (get_or c.args.names.now i c.index-names-i.result)) (map string_bytes (drop (i + 1) c.args.names.now)) front values read in
