@@ -1,4 +1,6 @@
 mod Bodies
+mod Chains
+mod Counts
 mod Heads
 mod Joins
 mod Runs

@@ -20,11 +20,11 @@ over : (front run : List ℕ) (read : Option (List ℕ)) → with_levels front (
 over front run None = refl
 over front run (Some more) = ap (λ (xs : List ℕ). Some xs) (sym (append_assoc front run more))
 
-bind_some : {A B : Type 0} (read : Option A) (next : A → Option B) (y : B) → (read >>= next) ≡ Some y → (x : A) × (read ≡ Some x) × (next x ≡ Some y)
+pub bind_some : {A B : Type 0} (read : Option A) (next : A → Option B) (y : B) → (read >>= next) ≡ Some y → (x : A) × (read ≡ Some x) × (next x ≡ Some y)
 bind_some (Some x) next y e = (x, refl, e)
 bind_some None next y e = absurd cc
 
-kept : {A : Type 0} (b : Bool) (x y : A) → cond b (Some x) None ≡ Some y → x ≡ y
+pub kept : {A : Type 0} (b : Bool) (x y : A) → cond b (Some x) None ≡ Some y → x ≡ y
 kept true x y e = cc
 kept false x y e = absurd cc
 
