@@ -29,7 +29,7 @@ both_true : (a b : Bool) → a && b ≡ true → (a ≡ true) × (b ≡ true)
 both_true true b e = (refl, e)
 both_true false b e = absurd cc
 
-bind_ok : {A B : Type 0} (read : Result A PqRefusal) (next : A → Result B PqRefusal) (y : B) → (read >>= next) ≡ Ok y → (x : A) × (read ≡ Ok x) × (next x ≡ Ok y)
+pub bind_ok : {A B : Type 0} (read : Result A PqRefusal) (next : A → Result B PqRefusal) (y : B) → (read >>= next) ≡ Ok y → (x : A) × (read ≡ Ok x) × (next x ≡ Ok y)
 bind_ok (Ok x) next y e = (x, refl, e)
 bind_ok (Err refusal) next y e = absurd cc
 
@@ -37,7 +37,7 @@ accepted : {A : Type 0} (b : Bool) (refusal : PqRefusal) (x : Result A PqRefusal
 accepted true refusal x y e = (refl, e)
 accepted false refusal x y e = absurd cc
 
-same : {A : Type 0} (x y : A) (first second : Result A PqRefusal) → first ≡ Ok x → second ≡ Ok y → first ≡ second → x ≡ y
+pub same : {A : Type 0} (x y : A) (first second : Result A PqRefusal) → first ≡ Ok x → second ≡ Ok y → first ≡ second → x ≡ y
 same x y first second a b e = cc
 
 placed_ok : {A : Type 0} (read : Result A ThriftRefusal) (x : A) → placed read ≡ Ok x → read ≡ Ok x
@@ -282,14 +282,14 @@ none_left [] e = refl
 none_left (value ∷ values) e = absurd (omega arith)
 
 pub pages_sound : ReadsWhatIsSpelled → (asked : Asked) (most left place : ℕ) (file : List ℕ) (values : List (Option ℤ)) → pages_at asked most left place file ≡ Ok values
-    → (places : List ℕ) × ArePages asked file place places values × (length values ≡ left)
+    → (places : List ℕ) × ArePages asked file place places values × (length values ≡ left) × (left ≡ 0 → places ≡ [])
 unfolding pages_at
 pages_sound law asked zero zero place file values e =
     let none : [] ≡ values = same [] values (Ok []) (Ok values) refl refl e in
-    ([], sym none, ap length (sym none))
+    ([], sym none, ap length (sym none), λ e. refl)
 pages_sound law asked (suc most) zero place file values e =
     let none : [] ≡ values = same [] values (Ok []) (Ok values) refl refl e in
-    ([], sym none, ap length (sym none))
+    ([], sym none, ap length (sym none), λ e. refl)
 pages_sound law asked zero (suc left) place file values e = absurd cc
 pages_sound law asked (suc most) (suc left) place file values e =
     let page = bind_ok (page_at asked (suc left) place file) (λ page. pages_at asked most (suc left - length page.0) page.1 file >>= λ more. Ok (page.0 ++ more)) values e in
@@ -297,7 +297,7 @@ pages_sound law asked (suc most) (suc left) place file values e =
     let whole : page.0.0 ++ more.0 ≡ values = same (page.0.0 ++ more.0) values (Ok (page.0.0 ++ more.0)) (Ok values) refl refl more.2 in
     let first = page_sound law asked (suc left) place file page.0.0 page.0.1 page.1 in
     let others = pages_sound law asked most (suc left - length page.0.0) page.0.1 file more.0 more.1 in
-    (place ∷ others.0, (page.0.0, page.0.1, more.0, refl, first.0, others.1, sym whole), ap length (sym whole) ∙ (length-append page.0.0 more.0 ∙ omega (arith, first.1, others.2)))
+    (place ∷ others.0, (page.0.0, page.0.1, more.0, refl, first.0, others.1, sym whole), ap length (sym whole) ∙ (length-append page.0.0 more.0 ∙ omega (arith, first.1, others.2)), λ e. absurd (omega arith))
 
 pub pages_complete : ReadsWhatIsSpelled → (asked : Asked) (places : List ℕ) (most left place : ℕ) (file : List ℕ) (values : List (Option ℤ)) → ArePages asked file place places values → length values ≡ left → asked.end ≤ place + most
     → pages_at asked most left place file ≡ Ok values

@@ -4,3 +4,4 @@ mod Counts
 mod Heads
 mod Joins
 mod Runs
+mod Whole

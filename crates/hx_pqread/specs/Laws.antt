@@ -40,11 +40,12 @@ ArePages asked file place [] values = values ≡ []
 ArePages asked file place (first ∷ places) values = (page : List (Option ℤ)) × (next : ℕ) × (more : List (Option ℤ))
     × (first ≡ place) × IsPage asked file place page next × ArePages asked file next places more × (values ≡ page ++ more)
 
--- as many values as a chunk has, from pages of which the first stands where the chunk says
+-- as many values as a chunk has, from pages of which the first stands where the chunk says; from none where it has no values
 pub record IsSpan (asked : Asked) (file : List ℕ) (span : Span) (values : List (Option ℤ)) : Type 0 where
   pub places : List ℕ
   pub pages : ArePages asked file span.place places values
   pub count : length values ≡ span.count
+  pub none : span.count ≡ 0 → places ≡ []
 
 abbrev pub AreSpans : Asked → (file : List ℕ) → List Span → (values : List (Option ℤ)) → Type 0
 AreSpans asked file [] values = values ≡ []
@@ -61,7 +62,41 @@ pub record IsColumn (footer : FooterRecord) (file : List ℕ) (column : ℕ) (na
   pub chunks : each (group_span column place) footer.groups ≡ Ok spans
   pub pages : AreSpans (record { column = column; layout = layout; end = footer.start }) file spans values
 
--- A column has values exactly where reading gives them.
-abbrev pub ReadsColumns : Type 0
-ReadsColumns = (footer : FooterRecord) (file : List ℕ) (column : ℕ) (name : List ℕ) (values : List (Option ℤ))
+-- numbers as values none of which is absent
+abbrev pub all_there : List ℤ → List (Option ℤ)
+all_there [] = []
+all_there (n ∷ numbers) = Some n ∷ all_there numbers
+
+-- The columns of these names, the first of which has the place column in the list of all names, have these numbers and no absent value.
+abbrev pub AreColumns : FooterRecord → (file : List ℕ) → (column : ℕ) → (names : List (List ℕ)) → (lists : List (List ℤ)) → Type 0
+AreColumns footer file column [] [] = Unit {0}
+AreColumns footer file column [] (numbers ∷ lists) = ⊥
+AreColumns footer file column (name ∷ names) [] = ⊥
+AreColumns footer file column (name ∷ names) (numbers ∷ lists) = IsColumn footer file column name (all_there numbers) × AreColumns footer file (column + 1) names lists
+
+-- the columns of these names of a whole file
+pub record HasColumns (file : List ℕ) (names : List (List ℕ)) (lists : List (List ℤ)) : Type 0 where
+  pub footer : FooterRecord
+  pub footer_is : footer_in file ≡ Ok footer
+  pub columns : AreColumns footer file 0 names lists
+
+-- the first refusal in reading the columns of these names, or none
+abbrev pub refusal_of : {A : Type 0} → Result A PqRefusal → Option PqRefusal
+refusal_of (Ok x) = None
+refusal_of (Err refusal) = Some refusal
+
+abbrev pub pq_fault : (file : List ℕ) → (names : List (List ℕ)) → Option PqRefusal
+pq_fault file names = refusal_of (columns_in file names)
+
+-- A column has these values, some of which may be absent, exactly where reading gives them.
+abbrev pub ReadsAColumn : Type 0
+ReadsAColumn = (footer : FooterRecord) (file : List ℕ) (column : ℕ) (name : List ℕ) (values : List (Option ℤ))
     → IsColumn footer file column name values ↔ (column_at footer file column name ≡ Ok values)
+
+-- A file has these columns exactly where reading gives them.
+abbrev pub ReadsWhatIsThere : Type 0
+ReadsWhatIsThere = (file : List ℕ) (names : List (List ℕ)) (lists : List (List ℤ)) → HasColumns file names lists ↔ (columns_in file names ≡ Ok lists)
+
+-- The first refusal is none exactly where a file has columns of these names.
+abbrev pub RefusesTheRest : Type 0
+RefusesTheRest = (file : List ℕ) (names : List (List ℕ)) → (pq_fault file names ≡ None) ↔ ((lists : List (List ℤ)) × HasColumns file names lists)

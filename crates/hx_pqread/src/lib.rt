@@ -6,6 +6,7 @@
 mod chunk;
 mod column;
 mod file;
+mod laws;
 mod layout;
 mod leaf;
 mod levels;
@@ -14,6 +15,7 @@ mod numbers;
 mod page;
 
 pub use file::columns;
+pub use laws::reading_is_standing;
 pub use lists::Columns;
 
 #[cfg(test)]
