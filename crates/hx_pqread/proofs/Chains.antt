@@ -33,7 +33,7 @@ pub bind_ok : {A B : Type 0} (read : Result A PqRefusal) (next : A → Result B 
 bind_ok (Ok x) next y e = (x, refl, e)
 bind_ok (Err refusal) next y e = absurd cc
 
-accepted : {A : Type 0} (b : Bool) (refusal : PqRefusal) (x : Result A PqRefusal) (y : A) → cond b x (Err refusal) ≡ Ok y → (b ≡ true) × (x ≡ Ok y)
+pub accepted : {A : Type 0} (b : Bool) (refusal : PqRefusal) (x : Result A PqRefusal) (y : A) → cond b x (Err refusal) ≡ Ok y → (b ≡ true) × (x ≡ Ok y)
 accepted true refusal x y e = (refl, e)
 accepted false refusal x y e = absurd cc
 
@@ -82,15 +82,15 @@ abbrev answer : PageHead → List (Option ℤ) → Result (List (Option ℤ) × 
 answer head values = Ok (values, head.next + natural head.stored_size)
 
 -- what a body that is read is like
-record IsBody (asked : Asked) (left : ℕ) (head : PageHead) (file : List ℕ) (values : List (Option ℤ)) (next : ℕ) : Type 0 where
-  size : ℕ
-  plain_size : head.plain_size ≡ pos size
-  stored_size : head.stored_size ≡ pos size
-  count : head.values ≡ pos (length values)
-  fits : size ≤ asked.end - head.next
-  body : body_values asked.layout (length values) (take size (drop head.next file)) ≡ Some values
-  end : next ≡ head.next + size
-  few : length values ≤ left
+pub record IsBody (asked : Asked) (left : ℕ) (head : PageHead) (file : List ℕ) (values : List (Option ℤ)) (next : ℕ) : Type 0 where
+  pub size : ℕ
+  pub plain_size : head.plain_size ≡ pos size
+  pub stored_size : head.stored_size ≡ pos size
+  pub count : head.values ≡ pos (length values)
+  pub fits : size ≤ asked.end - head.next
+  pub body : body_values asked.layout (length values) (take size (drop head.next file)) ≡ Some values
+  pub end : next ≡ head.next + size
+  pub few : length values ≤ left
 
 body_sound : (asked : Asked) (left : ℕ) (head : PageHead) (file : List ℕ) (values : List (Option ℤ)) (next : ℕ)
     → (body_at asked left head file >>= λ body. bounded asked.column (body_values asked.layout (natural head.values) body) >>= answer head) ≡ Ok (values, next)
@@ -136,7 +136,7 @@ header_sound law text head e =
     let value = struct_value 31 text header.0.1 header.0.0 read in
     (header.0.0, header.0.1, (law 32 12 text (entries header.0.0) header.0.1 is_struct).1 value, header.2)
 
-page_behind_sound : (asked : Asked) (left : ℕ) (head : PageHead) (file : List ℕ) (values : List (Option ℤ)) (next : ℕ) → page_behind asked left head file ≡ Ok (values, next)
+pub page_behind_sound : (asked : Asked) (left : ℕ) (head : PageHead) (file : List ℕ) (values : List (Option ℤ)) (next : ℕ) → page_behind asked left head file ≡ Ok (values, next)
     → (head_checked asked.column asked.layout head ≡ Ok head) × IsBody asked left head file values next
 unfolding page_behind
 page_behind_sound asked left head file values next e =

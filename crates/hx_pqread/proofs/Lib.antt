@@ -3,5 +3,6 @@ mod Chains
 mod Counts
 mod Heads
 mod Joins
+mod Lengths
 mod Runs
 mod Whole

@@ -63,12 +63,12 @@ column_complete law footer file column name values p =
 
 -- ---- values none of which is absent
 
-lesser_none : (a b : Option ℕ) → lesser a b ≡ None → (a ≡ None) × (b ≡ None)
+pub lesser_none : (a b : Option ℕ) → lesser a b ≡ None → (a ≡ None) × (b ≡ None)
 lesser_none None b e = (refl, e)
 lesser_none (Some a) None e = absurd cc
 lesser_none (Some a) (Some b) e = absurd cc
 
-there : (row : ℕ) (values : List (Option ℤ)) → first_absent row values ≡ None → all_there (present values) ≡ values
+pub there : (row : ℕ) (values : List (Option ℤ)) → first_absent row values ≡ None → all_there (present values) ≡ values
 there row [] e = refl
 there row (None ∷ values) e = absurd cc
 there row (Some n ∷ values) e = ap (λ (xs : List (Option ℤ)). Some n ∷ xs) (there (row + 1) values e)
@@ -113,7 +113,7 @@ columns_complete law footer file column (name ∷ names) [] h = absurd h
 columns_complete law footer file column (name ∷ names) (numbers ∷ lists) h =
     rw (column_complete law footer file column name (all_there numbers) h.0, columns_complete law footer file (column + 1) names lists h.1) refl
 
-kept_all : (absent : Option ℕ) (lists read : List (List ℤ)) → unless_absent absent lists ≡ Ok read → (absent ≡ None) × (lists ≡ read)
+pub kept_all : (absent : Option ℕ) (lists read : List (List ℤ)) → unless_absent absent lists ≡ Ok read → (absent ≡ None) × (lists ≡ read)
 kept_all None lists read e = (refl, same lists read (Ok lists) (Ok read) refl refl e)
 kept_all (Some row) lists read e = absurd cc
 

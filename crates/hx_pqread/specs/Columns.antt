@@ -1,5 +1,5 @@
 -- The columns of a whole file: their values, or the first refusal.
-use Rattle.std.specs.Prelude.{◌≡◌, ◌⊎◌, ℕ, zero, suc, ℤ, pos, ◌+◌, List, [], ◌∷◌, ◌++◌, length, map, min, Bool, true, false, not, nat_eq, ◌==◌, slice_get, Option, Some, None, Result, Ok, Err, if◌then◌else◌}
+use Rattle.std.specs.Prelude.{◌≡◌, ◌⊎◌, ℕ, zero, suc, ℤ, pos, ◌+◌, ◌<◌, List, [], ◌∷◌, ◌++◌, length, map, min, Bool, true, false, not, nat_eq, ◌==◌, slice_get, slice_index_or, Option, Some, None, Result, Ok, Err, if◌then◌else◌}
 use Rattle.std.specs.Cmp.Lexicographic.{pointwise}
 use Rattle.std.specs.Ordering.{int_eq}
 use Rattle.hx_pqmeta.specs.declared.chunk.Chunk.{Chunk}
@@ -130,3 +130,7 @@ columns_in file names = do
 abbrev pub AnswersColumns : {X : Type 0} → (lists : X → List (List ℤ)) → (absent : X → Option ℕ) → Result X PqRefusal → Result (List (List (Option ℤ))) PqRefusal → Type 0
 AnswersColumns lists absent (Ok x) read = (columns : List (List (Option ℤ))) × (read ≡ Ok columns) × (lists x ≡ map present columns) × (absent x ≡ least_absent columns)
 AnswersColumns lists absent (Err refusal) read = (refusal ≡ Memory) ⊎ (read ≡ Err refusal)
+
+-- each of the lists has so many rows
+abbrev pub HaveRows : (rows : ℕ) → List (List ℤ) → Type 0
+HaveRows rows lists = (i : ℕ) → i < length lists → length (slice_index_or lists i []) ≡ rows

@@ -1,6 +1,6 @@
-ghost use Rattle.std.specs.Prelude.{◌≡◌, ◌≤◌, map, length, string_bytes, Ok};
+ghost use Rattle.std.specs.Prelude.{◌≡◌, ◌≤◌, ℕ, map, length, string_bytes, Ok, IfOk};
 ghost use Rattle.hx_pqmeta.specs.Refusals.{AnswersOrWants};
-ghost use Rattle.hx_pqread.specs.Columns.{columns_at, lesser, least_absent, present, unless_absent, columns_in, AnswersColumns};
+ghost use Rattle.hx_pqread.specs.Columns.{columns_at, lesser, least_absent, present, unless_absent, columns_in, AnswersColumns, HaveRows};
 
 use crate::column::{first_absent, present, read_column};
 use crate::lists::Columns;
@@ -12,8 +12,18 @@ use std::alloc::Global;
 /// The refusals of the footer come first. Then, for each name in order, comes Column, where not exactly one leaf has
 /// the name or its type isn't read; then the first refusal of its chunks in the order of the row groups; then that of
 /// its pages. Null comes last, and names the least row at which a column has no value. `column` is a name's place.
-#[tactic(auto, unfolding(crate::specs::Columns::columns_in))]
+///
+/// All columns that are read have equally many numbers.
 pub fn columns(alloc: Global, bytes: &[u8], names: &[String]) -> Result<Columns, PqRefusal>
+    ensures count { IfOk result (λ columns. length columns ≡ length names.now) }
+    ensures rows { IfOk result (λ columns. (rows : ℕ) × HaveRows rows columns) }
+    ensures value { AnswersOrWants (λ columns. columns) result (columns_in bytes.now (map string_bytes names.now)) }
+{
+    columns_of(alloc, bytes, names)
+}
+
+#[tactic(auto, unfolding(crate::specs::Columns::columns_in))]
+fn columns_of(alloc: Global, bytes: &[u8], names: &[String]) -> Result<Columns, PqRefusal>
     ensures { AnswersOrWants (λ columns. columns) result (columns_in bytes.now (map string_bytes names.now)) }
 {
     let footer = read_footer(alloc, bytes)?;
