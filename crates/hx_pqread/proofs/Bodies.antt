@@ -1,7 +1,7 @@
 -- One more number of a page.
-use Rattle.std.proofs.Common.{◌≡◌, ℕ, zero, suc, ◌+◌, ◌*◌, ◌<◌, ◌≤◌, ℤ, List, [], ◌∷◌, ◌++◌, length, Option, Some, None, refl, sym, ap, ◌∙◌, arith, add-one, append_assoc}
+use Rattle.std.proofs.Common.{◌≡◌, ℕ, ◌+◌, ℤ, List, [], ◌∷◌, ◌++◌, Option, Some, refl, ◌∙◌, add-one, append_assoc}
 use Rattle.std.specs.Int.{Width}
-use Rattle.hx_pqread.specs.Numbers.{number, plain, spread, given}
+use Rattle.hx_pqread.specs.Numbers.{number, plain}
 
 pub next_plain : (w : Width) (n : ℕ) (bytes : List ℕ) → plain w (n + 1) bytes ≡ plain w n bytes ++ Some (number w n bytes) ∷ []
 unfolding plain

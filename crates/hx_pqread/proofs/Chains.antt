@@ -1,5 +1,5 @@
 -- Reading pages one after another, and pages that stand one after another, are one.
-use Rattle.std.proofs.Common.{◌≡◌, ◌⊎◌, inl, inr, ℕ, ℤ, zero, suc, pos, negsuc, ◌+◌, ◌-◌, ◌<◌, ◌≤◌, List, [], ◌∷◌, ◌++◌, length, take, drop, ◌&&◌, Bool, true, false, cond, eqb, ltb, leb, Option, Some, None, Result, Ok, Err, refl, sym, ap, subst, ◌∙◌, arith, length-append, append_assoc}
+use Rattle.std.proofs.Common.{◌≡◌, inl, inr, ℕ, ℤ, zero, suc, pos, negsuc, ◌+◌, ◌-◌, ◌<◌, ◌≤◌, List, [], ◌∷◌, ◌++◌, length, take, drop, ◌&&◌, Bool, true, false, cond, ltb, leb, Option, Some, None, Result, Ok, Err, refl, sym, ap, ◌∙◌, arith, length-append}
 use Rattle.std.proofs.lemmas.Bool.Decides.{nat_tests}
 use Rattle.std.proofs.lemmas.Bool.{leb-true, ltb-true}
 use Rattle.std.specs.Ordering.{int_eq}
@@ -14,7 +14,7 @@ use Rattle.hx_pqmeta.specs.declared.page.DataPageHeader.{DataPageHeader}
 use Rattle.hx_pqmeta.specs.declared.page.PageHead.{PageHead}
 use Rattle.hx_pqmeta.specs.declared.page.PageHeader.{PageHeader}
 use Rattle.hx_pqmeta.specs.declared.refusal.PqRefusal.{PqRefusal}
-use Rattle.hx_pqmeta.specs.declared.refusal.PqRefusal.TheVariants.{Encoding, Bounds, Missing}
+use Rattle.hx_pqmeta.specs.declared.refusal.PqRefusal.TheVariants.{Encoding, Bounds}
 use Rattle.hx_pqmeta.specs.Refusals.{◌>>=◌, placed, needed}
 use Rattle.hx_pqmeta.specs.Fields.{page_header_of}
 use Rattle.hx_pqmeta.proofs.Entries.{struct_value}
@@ -51,12 +51,12 @@ unfolding head_checked
 head_same column layout head checked e =
     let a = accepted (int_eq head.kind (pos 0) && int_eq head.encoding (pos 0)) (Encoding column) (cond layout.is_optional (runs_checked column head) (Ok head)) checked e in
     by_kind layout.is_optional a.1 where
-  by_kind : (is_optional : Bool) → cond is_optional (runs_checked column head) (Ok head) ≡ Ok checked → head ≡ checked
-  by_kind false e = same head checked (Ok head) (Ok checked) refl refl e
-  by_kind true e =
-      let levels = bind_ok (needed 703 head.levels) (λ encoding. cond (int_eq encoding (pos 3)) (Ok head) (Err (Encoding column))) checked e in
-      let b = accepted (int_eq levels.0 (pos 3)) (Encoding column) (Ok head) checked levels.2 in
-      same head checked (Ok head) (Ok checked) refl refl b.1
+      by_kind : (is_optional : Bool) → cond is_optional (runs_checked column head) (Ok head) ≡ Ok checked → head ≡ checked
+      by_kind false e = same head checked (Ok head) (Ok checked) refl refl e
+      by_kind true e =
+          let levels = bind_ok (needed 703 head.levels) (λ encoding. cond (int_eq encoding (pos 3)) (Ok head) (Err (Encoding column))) checked e in
+          let b = accepted (int_eq levels.0 (pos 3)) (Encoding column) (Ok head) checked levels.2 in
+          same head checked (Ok head) (Ok checked) refl refl b.1
 
 sizes_are : (left room : ℕ) (plain_size stored_size values : ℤ) → are_sizes left room plain_size stored_size values ≡ true
     → (size : ℕ) × (n : ℕ) × (plain_size ≡ pos size) × (stored_size ≡ pos size) × (values ≡ pos n) × (size ≤ room) × (n ≤ left)
@@ -110,9 +110,9 @@ body_sound asked left head file values next e =
     let number : natural head.values ≡ s.1 = ap natural s.4 in
     let len : length values ≡ s.1 = ap length (sym value_is) ∙ (body_length asked.layout (natural head.values) body.0 read.0 some ∙ number) in
     let body_is : body_values asked.layout (length values) (take s.0 (drop head.next file)) ≡ Some values =
-        ap (λ (n : ℕ). body_values asked.layout n (take s.0 (drop head.next file))) (len ∙ sym number)
-        ∙ (ap (λ (n : ℕ). body_values asked.layout (natural head.values) (take n (drop head.next file))) (sym stored)
-        ∙ (ap (body_values asked.layout (natural head.values)) bytes ∙ (some ∙ ap (λ (xs : List (Option ℤ)). Some xs) value_is))) in
+    ap (λ (n : ℕ). body_values asked.layout n (take s.0 (drop head.next file))) (len ∙ sym number)
+    ∙ (ap (λ (n : ℕ). body_values asked.layout (natural head.values) (take n (drop head.next file))) (sym stored)
+    ∙ (ap (body_values asked.layout (natural head.values)) bytes ∙ (some ∙ ap (λ (xs : List (Option ℤ)). Some xs) value_is))) in
     record {
       size = s.0;
       plain_size = s.2;
@@ -241,16 +241,16 @@ head_next : (header : PageHeader) (next : ℕ) (made : PageHead) → page_head_o
 unfolding page_head_of
 head_next header next made e =
     let kind = bind_ok (needed 601 header.kind) (λ kind. needed 602 header.plain_size >>= λ plain_size. needed 603 header.stored_size >>= λ stored_size.
-        cond (int_eq kind (pos 0)) (with_data_page (plain_head kind plain_size stored_size next) header.data_page) (Ok (plain_head kind plain_size stored_size next))) made e in
+    cond (int_eq kind (pos 0)) (with_data_page (plain_head kind plain_size stored_size next) header.data_page) (Ok (plain_head kind plain_size stored_size next))) made e in
     let plain_size = bind_ok (needed 602 header.plain_size) (λ plain_size. needed 603 header.stored_size >>= λ stored_size.
-        cond (int_eq kind.0 (pos 0)) (with_data_page (plain_head kind.0 plain_size stored_size next) header.data_page) (Ok (plain_head kind.0 plain_size stored_size next))) made kind.2 in
+    cond (int_eq kind.0 (pos 0)) (with_data_page (plain_head kind.0 plain_size stored_size next) header.data_page) (Ok (plain_head kind.0 plain_size stored_size next))) made kind.2 in
     let stored_size = bind_ok (needed 603 header.stored_size) (λ stored_size.
-        cond (int_eq kind.0 (pos 0)) (with_data_page (plain_head kind.0 plain_size.0 stored_size next) header.data_page) (Ok (plain_head kind.0 plain_size.0 stored_size next))) made plain_size.2 in
+    cond (int_eq kind.0 (pos 0)) (with_data_page (plain_head kind.0 plain_size.0 stored_size next) header.data_page) (Ok (plain_head kind.0 plain_size.0 stored_size next))) made plain_size.2 in
     let head = plain_head kind.0 plain_size.0 stored_size.0 next in
     by_kind head (int_eq kind.0 (pos 0)) stored_size.2 where
-  by_kind : (head : PageHead) (b : Bool) → cond b (with_data_page head header.data_page) (Ok head) ≡ Ok made → head.next ≡ made.next
-  by_kind head true e = data_next head made header.data_page e
-  by_kind head false e = made_next head made e
+      by_kind : (head : PageHead) (b : Bool) → cond b (with_data_page head header.data_page) (Ok head) ≡ Ok made → head.next ≡ made.next
+      by_kind head true e = data_next head made header.data_page e
+      by_kind head false e = made_next head made e
 
 front_none : (front others : List ℕ) → [] ≡ front ++ others → [] ≡ front
 front_none [] others e = refl

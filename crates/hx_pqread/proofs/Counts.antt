@@ -1,5 +1,5 @@
 -- A body that is read has as many values as are asked for.
-use Rattle.std.proofs.Common.{◌≡◌, ℕ, ℤ, zero, suc, ◌+◌, ◌-◌, ◌*◌, ◌≤◌, List, [], ◌∷◌, ◌++◌, length, take, drop, ◌&&◌, Bool, true, false, cond, eqb, leb, Option, Some, None, refl, sym, ap, ◌∙◌, arith, length-append}
+use Rattle.std.proofs.Common.{◌≡◌, ℕ, ℤ, zero, suc, ◌+◌, ◌-◌, ◌*◌, List, [], ◌∷◌, ◌++◌, length, take, drop, ◌&&◌, Bool, true, false, cond, eqb, leb, Option, Some, None, refl, sym, ap, ◌∙◌, arith, length-append}
 use Rattle.std.specs.Int.{Width}
 use Rattle.hx_pqread.specs.declared.layout.Layout.{Layout}
 use Rattle.hx_pqread.specs.Levels.{◌>>=◌, run_at, levels_at}

@@ -1,8 +1,8 @@
 -- What stands behind a varint is the end of the bytes that it begins.
-use Rattle.std.proofs.Common.{◌≡◌, ℕ, zero, suc, ◌+◌, ◌-◌, ◌*◌, ◌^◌, ◌%◌, ◌≤◌, List, [], ◌∷◌, ◌++◌, length, drop, Bool, true, false, cond, ltb, Result, Ok, Err, refl, sym, ap, subst, ◌∙◌, inl, inr, ◌⊎◌, arith, length-append, append_assoc}
+use Rattle.std.proofs.Common.{◌≡◌, ℕ, zero, suc, ◌+◌, ◌-◌, ◌*◌, ◌^◌, ◌%◌, ◌≤◌, List, [], ◌∷◌, ◌++◌, length, drop, Bool, true, false, cond, ltb, Result, Ok, Err, refl, ap, subst, ◌∙◌, inl, inr, ◌⊎◌, arith, length-append, append_assoc}
 use Rattle.std.proofs.Math.Seq.{drop-append_seam}
 use Rattle.hx_thrift.specs.declared.refusal.ThriftRefusal.{ThriftRefusal}
-use Rattle.hx_thrift.specs.declared.refusal.ThriftRefusal.TheVariants.{Short, Overlong}
+use Rattle.hx_thrift.specs.declared.refusal.ThriftRefusal.TheVariants.{Overlong}
 use Rattle.hx_thrift.specs.Texts.{Text, Read, ◌>>=◌, read_as}
 use Rattle.hx_thrift.specs.Reading.{byte_at, groups_at, varint_at}
 

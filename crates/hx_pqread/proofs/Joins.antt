@@ -5,9 +5,8 @@ use Rattle.hx_pqmeta.specs.declared.refusal.PqRefusal.{PqRefusal}
 use Rattle.hx_pqmeta.specs.declared.refusal.PqRefusal.TheVariants.{Memory, Bounds}
 use Rattle.hx_pqmeta.specs.Refusals.{◌>>=◌, each}
 use Rattle.hx_pqread.specs.declared.layout.Asked.{Asked}
-use Rattle.hx_pqread.specs.declared.chunk.Span.{Span}
 use Rattle.hx_pqread.specs.Pages.{page_at, pages_at}
-use Rattle.hx_pqread.specs.Columns.{spans_at, column_at, columns_at, first_absent, lesser, least_absent, present, unless_absent}
+use Rattle.hx_pqread.specs.Columns.{column_at, columns_at, first_absent, lesser, least_absent, present}
 use Rattle.hx_pqmeta.specs.Records.{FooterRecord}
 
 -- the values so far, and those still to come

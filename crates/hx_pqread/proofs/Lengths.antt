@@ -1,12 +1,10 @@
 -- The columns that are read have equally many values: as many as the row groups have rows.
-use Rattle.std.proofs.Common.{◌≡◌, ◌⊎◌, ℕ, ℤ, zero, suc, pos, ◌+◌, ◌-◌, ◌<◌, ◌≤◌, List, [], ◌∷◌, ◌++◌, length, map, slice_get, not, Bool, true, false, cond, ◌&&◌, leb, ltb, Option, Some, None, Result, Ok, Err, IfOk, refl, sym, ap, subst, ◌∙◌, arith, length-append}
-use Rattle.std.specs.Prelude.{slice_index_or}
+use Rattle.std.proofs.Common.{◌≡◌, ℕ, ℤ, zero, suc, pos, ◌+◌, ◌-◌, ◌≤◌, List, [], ◌∷◌, ◌++◌, length, map, slice_get, not, Bool, true, false, cond, ◌&&◌, leb, ltb, Option, None, Result, Ok, Err, IfOk, refl, sym, ap, subst, ◌∙◌, arith, length-append}
 use Rattle.std.specs.Ordering.{int_eq}
 use Rattle.std.proofs.lemmas.Bool.Decides.{nat_tests}
 use Rattle.hx_pqmeta.specs.declared.chunk.Chunk.{Chunk}
-use Rattle.hx_pqmeta.specs.declared.page.PageHead.{PageHead}
 use Rattle.hx_pqmeta.specs.declared.refusal.PqRefusal.{PqRefusal}
-use Rattle.hx_pqmeta.specs.declared.refusal.PqRefusal.TheVariants.{Memory, Codec, Encoding, Bounds}
+use Rattle.hx_pqmeta.specs.declared.refusal.PqRefusal.TheVariants.{Codec, Encoding, Bounds}
 use Rattle.hx_pqmeta.specs.Records.{GroupRecord, FooterRecord}
 use Rattle.hx_pqmeta.specs.Refusals.{◌>>=◌, needed, each, AnswersOrWants}
 use Rattle.hx_pqmeta.specs.Footers.{is_above_zero, footer_in}

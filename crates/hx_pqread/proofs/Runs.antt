@@ -1,5 +1,5 @@
 -- Levels of runs, one run after another.
-use Rattle.std.proofs.Common.{◌≡◌, ℕ, zero, suc, ◌+◌, ◌-◌, ◌*◌, ◌/◌, ◌%◌, ◌^◌, ◌<◌, ◌≤◌, List, [], ◌∷◌, ◌++◌, length, take, drop, min, Option, Some, None, Ok, Err, refl, sym, ap, ◌∙◌, append_assoc, arith, add-one, subst, Bool, true, false, ◌&&◌, cond, ltb, leb, eqb, replicate, length-append, inl, inr, ◌⊎◌}
+use Rattle.std.proofs.Common.{◌≡◌, ℕ, zero, suc, ◌+◌, ◌-◌, ◌*◌, ◌/◌, ◌%◌, ◌^◌, ◌<◌, ◌≤◌, List, [], ◌∷◌, ◌++◌, length, take, drop, min, Option, Some, None, refl, sym, ap, ◌∙◌, append_assoc, arith, add-one, subst, Bool, true, false, ◌&&◌, cond, ltb, leb, eqb, replicate, length-append, inl, inr, ◌⊎◌}
 use Rattle.std.specs.Prelude.{slice_index}
 use Rattle.std.proofs.lemmas.List.{append-nil, length-replicate}
 use Rattle.hx_pqread.specs.Levels.{◌>>=◌, head_at, packed, equal_at, packed_at, run_at, levels_at}

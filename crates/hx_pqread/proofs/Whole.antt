@@ -1,8 +1,7 @@
 -- Reading columns, and columns that a file has, are one.
-use Rattle.std.proofs.Common.{◌≡◌, ℕ, ℤ, ◌+◌, List, [], ◌∷◌, ◌++◌, length, map, slice_get, Option, Some, None, Result, Ok, Err, refl, sym, ap, subst, ◌∙◌, arith}
+use Rattle.std.proofs.Common.{◌≡◌, ℕ, ℤ, ◌+◌, List, [], ◌∷◌, ◌++◌, map, slice_get, Option, Some, None, Result, Ok, Err, refl, sym, ap, subst, ◌∙◌, arith}
 use Rattle.hx_thrift.specs.Spelling.{ReadsWhatIsSpelled}
 use Rattle.hx_pqmeta.specs.declared.refusal.PqRefusal.{PqRefusal}
-use Rattle.hx_pqmeta.specs.declared.refusal.PqRefusal.TheVariants.{Column, Null}
 use Rattle.hx_pqmeta.specs.Records.{FooterRecord}
 use Rattle.hx_pqmeta.specs.Refusals.{◌>>=◌, each}
 use Rattle.hx_pqmeta.specs.Footers.{footer_in}
@@ -11,7 +10,7 @@ use Rattle.hx_pqread.specs.declared.layout.Layout.{Layout}
 use Rattle.hx_pqread.specs.declared.chunk.Span.{Span}
 use Rattle.hx_pqread.specs.Pages.{pages_at}
 use Rattle.hx_pqread.specs.Columns.{places_of, only, layout_of, group_span, spans_at, column_at, columns_at, first_absent, lesser, least_absent, present, unless_absent, columns_in}
-use Rattle.hx_pqread.specs.Laws.{IsSpan, AreSpans, IsColumn, all_there, AreColumns, HasColumns, refusal_of}
+use Rattle.hx_pqread.specs.Laws.{AreSpans, IsColumn, all_there, AreColumns, HasColumns, refusal_of}
 use Rattle.hx_pqread.proofs.Chains.{bind_ok, same, pages_sound, pages_complete}
 
 -- ---- spans

@@ -1,5 +1,5 @@
 -- The columns of a file as what stands in it: pages at places, each with a spelled header and a body, one after another.
-use Rattle.std.specs.Prelude.{◌≡◌, ◌↔◌, ℕ, zero, suc, ℤ, pos, ◌+◌, ◌-◌, ◌<◌, ◌≤◌, List, [], ◌∷◌, ◌++◌, length, take, drop, map, slice_get, Option, Some, None, Result, Ok, Err}
+use Rattle.std.specs.Prelude.{◌≡◌, ◌↔◌, ℕ, ℤ, pos, ◌+◌, ◌-◌, ◌<◌, ◌≤◌, List, [], ◌∷◌, ◌++◌, length, take, drop, slice_get, Option, Some, None, Result, Ok, Err}
 use Rattle.hx_thrift.specs.Texts.{Text}
 use Rattle.hx_thrift.specs.Values.{Entry, Value, entries}
 use Rattle.hx_thrift.specs.Spelling.{Begins}

@@ -1,5 +1,5 @@
 -- The numbers of a page: plain ones stand one after another, each in four or eight bytes, little-endian, in two's complement.
-use Rattle.std.specs.Prelude.{ℕ, zero, suc, ◌+◌, ◌*◌, ℤ, List, [], ◌∷◌, ◌++◌, length, take, drop, Bool, ◌==◌, if◌then◌else◌, Option, Some, None}
+use Rattle.std.specs.Prelude.{ℕ, zero, suc, ◌+◌, ◌*◌, ℤ, List, [], ◌∷◌, ◌++◌, take, drop, Bool, ◌==◌, if◌then◌else◌, Option, Some, None}
 use Rattle.std.specs.Int.{Width, w32, w64, byte_len, from_le_bytes, cast_signed}
 
 -- the width of INT64, which is wide, and of INT32

@@ -88,6 +88,27 @@ fn refusal(alloc: Global, place: usize, byte: u8, name: &str) -> Option<PqRefusa
     }
 }
 
+// The refusal of a read of two columns.
+fn refusal_of_two(alloc: Global, first: &str, second: &str) -> Result<(), PqRefusal> {
+    let mut names = Vec::new(alloc);
+    names.push(first.to_owned(alloc)?)?;
+    names.push(second.to_owned(alloc)?)?;
+    let _read = columns(alloc, &TWO_GROUPS, &names)?;
+    Ok(())
+}
+
+#[test]
+fn two_columns(rt: HostRuntime) {
+    assert_eq!(rt;
+        refusal_of_two(rt.alloc(), "a", "b"),
+        Err(PqRefusal::Null { row: 1 })
+    );
+    assert_eq!(rt;
+        refusal_of_two(rt.alloc(), "b", "c"),
+        Err(PqRefusal::Column { column: 1 })
+    );
+}
+
 #[test]
 fn one_row(rt: HostRuntime) {
     match numbers(rt.alloc(), &ONE_ROW, "id") {

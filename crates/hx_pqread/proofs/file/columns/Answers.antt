@@ -1,4 +1,4 @@
-use Rattle.std.proofs.Common.{◌≡◌, ℕ, ℤ, List, length, map, string_bytes, ◌∙◌}
+use Rattle.std.proofs.Common.{◌≡◌, ℕ, length, map, string_bytes, ◌∙◌}
 use Rattle.std.proofs.lemmas.List.{length-map}
 use Rattle.hx_pqread.specs.Columns.{columns_in, HaveRows}
 use Rattle.hx_pqread.proofs.Lengths.{whole_lengths, if_ok}

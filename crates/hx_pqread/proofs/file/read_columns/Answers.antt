@@ -1,6 +1,6 @@
-use Rattle.std.proofs.Common.{rules, ◌≡◌, ◌+◌, ◌++◌, ◌∷◌, [], List, ℤ, ℕ, Option, Ok, map, drop, string_bytes, get_or, refl, sym, ap, subst, ◌∙◌, arith}
+use Rattle.std.proofs.Common.{◌≡◌, ◌+◌, ◌++◌, ◌∷◌, [], Ok, map, drop, string_bytes, get_or, refl, sym, ap, ◌∙◌, arith}
 use Rattle.std.proofs.lemmas.List.{at_drop_more}
-use Rattle.hx_pqread.specs.Columns.{column_at, columns_at, least_absent, first_absent, present, lesser}
+use Rattle.hx_pqread.specs.Columns.{column_at, columns_at, least_absent, present}
 use Rattle.hx_pqread.proofs.Joins.{with_columns, next_column, one_column, pushed, ok_is}
 use Rattle.hx_pqread.proofs.file.read_columns.Goals as goal
 

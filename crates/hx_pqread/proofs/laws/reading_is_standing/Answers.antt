@@ -1,4 +1,4 @@
-use Rattle.std.proofs.Common.{◌≡◌, refl, ap}
+use Rattle.std.proofs.Common.{refl, ap}
 use Rattle.hx_pqread.specs.Columns.{columns_in}
 use Rattle.hx_pqread.specs.Laws.{refusal_of}
 use Rattle.hx_pqread.proofs.Whole.{column_sound, column_complete, whole_sound, whole_complete, some_columns}

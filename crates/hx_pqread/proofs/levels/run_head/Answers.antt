@@ -1,5 +1,4 @@
-use Rattle.std.proofs.Common.{◌≡◌, ◌-◌, ◌≤◌, length, drop, Some, refl, sym, ap, ◌∙◌, arith}
-use Rattle.hx_thrift.specs.Reading.{varint_at}
+use Rattle.std.proofs.Common.{◌≡◌, length, refl, ap, ◌∙◌, arith}
 use Rattle.hx_thrift.specs.Texts.{Text}
 use Rattle.hx_pqread.specs.Levels.{head_at}
 use Rattle.hx_pqread.proofs.Heads.{varint_rest}

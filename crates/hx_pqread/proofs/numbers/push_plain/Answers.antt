@@ -1,10 +1,10 @@
-use Rattle.std.proofs.Common.{rules, ◌≡◌, ◌++◌, ◌∷◌, [], Some, sym, ◌∙◌}
+use Rattle.std.proofs.Common.{rules, sym}
 use Rattle.std.proofs.lemmas.List.{append-nil}
 use Rattle.std.specs.Int.{w64}
 use Rattle.std.specs.Int.RustNames.{FitsSigned}
 use Rattle.std.proofs.lemmas.Int.{to_z-of_z}
 use Rattle.hx_pqread.specs.Numbers.{width}
-use Rattle.hx_pqread.proofs.Bodies.{next_plain, no_plain, one_more}
+use Rattle.hx_pqread.proofs.Bodies.{no_plain, one_more}
 use Rattle.hx_pqread.proofs.numbers.push_plain.Goals as goal
 
 pub loop-index-init : goal.loop-index-init

@@ -1,7 +1,7 @@
-use Rattle.std.proofs.Common.{rules, ◌≡◌, ◌+◌, ◌-◌, ◌<◌, ◌++◌, ℕ, ℤ, List, length, vec_len, Option, Ok, Err, inr, refl, sym, ap, ◌∙◌, arith, length-append, append_assoc}
+use Rattle.std.proofs.Common.{rules, ◌≡◌, ◌+◌, ◌-◌, ◌++◌, length, vec_len, inr, sym, ◌∙◌, arith, length-append, append_assoc}
 use Rattle.std.proofs.lemmas.Result.{err_from_is_err_and}
 use Rattle.hx_pqread.specs.Pages.{page_at, pages_at}
-use Rattle.hx_pqread.proofs.Joins.{with_values, next_page, no_page, all_pages, too_few_pages, refused}
+use Rattle.hx_pqread.proofs.Joins.{next_page, no_page, all_pages, too_few_pages, refused}
 use Rattle.hx_pqread.proofs.page.read_pages.Goals as goal
 
 pub returns-then-left-eq0 : goal.returns-then-left-eq0
