@@ -31,6 +31,7 @@ abbrev pub is_wide_kind : (column : ℕ) → Option ℤ → Result Bool PqRefusa
 is_wide_kind column None = Err (Column column)
 is_wide_kind column (Some kind) = if int_eq kind (pos 1) then Ok false else if int_eq kind (pos 2) then Ok true else Err (Column column)
 
+-- how the values of a leaf stand: repetition 1 is OPTIONAL
 unfoldable pub layout_of : (column : ℕ) → Option LeafRecord → Result Layout PqRefusal
 layout_of column None = Err (Column column)
 layout_of column (Some leaf) = do
@@ -39,7 +40,7 @@ layout_of column (Some leaf) = do
 
 -- ---- the chunks of a leaf
 
--- a chunk whose meta data has these fields
+-- Where the values of a chunk stand whose meta data has these fields: it isn't compressed, has no dictionary, and as many values as the row group has rows.
 abbrev pub span_with : (column : ℕ) → (rows codec values data_page : ℤ) → (dictionary_page : Option ℤ) → Result Span PqRefusal
 span_with column rows codec values data_page dictionary_page =
     if not (int_eq codec (pos 0)) then Err (Codec column)
@@ -47,10 +48,11 @@ span_with column rows codec values data_page dictionary_page =
     else if int_eq values rows then Ok (record { place = natural data_page; count = natural values })
     else Err (Bounds column)
 
+-- a chunk has to have meta data
 abbrev pub meta_checked : Bool → Result Bool PqRefusal
 meta_checked has_meta = if has_meta then Ok true else Err (Missing 403)
 
--- where the values of a chunk of a row group stand, with so many rows
+-- where the values of a chunk of a row group with so many rows stand, which is in this file
 unfoldable pub chunk_span : (column : ℕ) → (rows : ℤ) → Chunk → Result Span PqRefusal
 chunk_span column rows chunk =
     if chunk.has_path then Err (Bounds column) else (do
@@ -115,6 +117,7 @@ present [] = []
 present (None ∷ values) = present values
 present (Some n ∷ values) = n ∷ present values
 
+-- the columns, where no row lacks a value
 abbrev pub unless_absent : Option ℕ → List (List ℤ) → Result (List (List ℤ)) PqRefusal
 unless_absent None columns = Ok columns
 unless_absent (Some row) columns = Err (Null row)

@@ -37,15 +37,17 @@ optional_body is_wide count body =
     then spread_body is_wide (levels_at (levels_len body) count (take (levels_len body) (drop 4 body))) (drop (4 + levels_len body) body)
     else None
 
+-- the values of a body of so many: OPTIONAL columns have levels, REQUIRED ones don't
 abbrev pub body_values : Layout → (count : ℕ) → List ℕ → Option (List (Option ℤ))
 body_values layout count body = if layout.is_optional then optional_body layout.is_wide count body else required_body layout.is_wide count body
 
--- A head that is read further: a data page of plain numbers, whose levels are runs (3) where the column has levels.
+-- a head whose levels are runs, which is the encoding 3
 abbrev pub runs_checked : (column : ℕ) → PageHead → Result PageHead PqRefusal
 runs_checked column head = do
   encoding ← needed 703 head.levels
   if int_eq encoding (pos 3) then Ok head else Err (Encoding column)
 
+-- A head that is read further: a data page (type 0) of plain numbers (encoding 0), whose levels are runs where the column has levels.
 unfoldable pub head_checked : (column : ℕ) → Layout → PageHead → Result PageHead PqRefusal
 head_checked column layout head =
     if int_eq head.kind (pos 0) && int_eq head.encoding (pos 0)
@@ -57,6 +59,7 @@ abbrev pub are_sizes : (left room : ℕ) → (plain_size stored_size values : �
 are_sizes left room (pos plain_size) (pos stored_size) (pos values) = plain_size == stored_size && nat_le stored_size room && nat_le values left
 are_sizes left room _ _ _ = false
 
+-- A count or place that isn't negative. A negative place is refused as 0 is, which lies in front of all pages.
 abbrev pub natural : ℤ → ℕ
 natural (pos n) = n
 natural (negsuc n) = 0
