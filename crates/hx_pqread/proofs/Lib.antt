@@ -1,0 +1,4 @@
+mod Bodies
+mod Heads
+mod Joins
+mod Runs

@@ -1,0 +1,4 @@
+pub mod Columns
+pub mod Levels
+pub mod Numbers
+pub mod Pages

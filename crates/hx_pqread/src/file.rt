@@ -1,0 +1,72 @@
+ghost use Rattle.std.specs.Prelude.{◌≡◌, ◌≤◌, map, length, string_bytes, Ok};
+ghost use Rattle.hx_pqmeta.specs.Refusals.{AnswersOrWants};
+ghost use Rattle.hx_pqread.specs.Columns.{columns_at, lesser, least_absent, present, unless_absent, columns_in, AnswersColumns};
+
+use crate::column::{first_absent, present, read_column};
+use crate::lists::Columns;
+use hx_pqmeta::{Footer, PqRefusal, read_footer};
+use std::alloc::Global;
+
+/// Reads the columns of these names of a whole file, each of whose numbers is of the type INT32 or INT64.
+///
+/// The refusals of the footer come first. Then, for each name in order, comes Column, where not exactly one leaf has
+/// the name or its type isn't read; then the first refusal of its chunks in the order of the row groups; then that of
+/// its pages. Null comes last, and names the least row at which a column has no value. `column` is a name's place.
+#[tactic(auto, unfolding(crate::specs::Columns::columns_in))]
+pub fn columns(alloc: Global, bytes: &[u8], names: &[String]) -> Result<Columns, PqRefusal>
+    ensures { AnswersOrWants (λ columns. columns) result (columns_in bytes.now (map string_bytes names.now)) }
+{
+    let footer = read_footer(alloc, bytes)?;
+    let (lists, absent) = read_columns(alloc, &footer, bytes, names)?;
+    unless_absent(absent, lists)
+}
+
+fn unless_absent(absent: Option<u64>, lists: Vec<Vec<i64>>) -> Result<Columns, PqRefusal>
+    ensures { AnswersOrWants (λ columns. columns) result (unless_absent absent (map (λ list. list.items) lists.items)) }
+{
+    match absent {
+        None => Ok(Columns::new(lists)),
+        Some(row) => Err(PqRefusal::Null { row }),
+    }
+}
+
+fn lesser(row: Option<u64>, other: Option<u64>) -> Option<u64>
+    ensures { result ≡ lesser row other }
+{
+    match (row, other) {
+        (None, other) => other,
+        (Some(row), None) => Some(row),
+        (Some(row), Some(other)) => Some(if row < other { row } else { other }),
+    }
+}
+
+// The place of a name, as refusals name it. No list of names that fits in memory has too many.
+fn column_of(i: usize) -> Result<u32, PqRefusal>
+    ensures { AnswersOrWants (λ column. column) result (Ok i) }
+{
+    match u32::try_from(i) {
+        Ok(column) => Ok(column),
+        Err(_) => Err(PqRefusal::Memory),
+    }
+}
+
+// The values that are there of each column, and the least row at which one is absent.
+fn read_columns(
+    alloc: Global,
+    footer: &Footer,
+    file: &[u8],
+    names: &[String],
+) -> Result<(Vec<Vec<i64>>, Option<u64>), PqRefusal>
+    requires { footer.now.start ≤ length file.now }
+    ensures { AnswersColumns (λ x. map (λ list. list.items) x.0.items) (λ x. x.1) result (columns_at footer.now file.now 0 (map string_bytes names.now)) }
+{
+    let mut lists = Vec::new(alloc);
+    let mut absent = None;
+    for i in 0..names.len() {
+        let values = read_column(alloc, footer, file, column_of(i)?, names[i].as_bytes())?;
+        absent = lesser(absent, first_absent(&values));
+        let list = present(alloc, &values)?;
+        lists.push(list)?;
+    }
+    Ok((lists, absent))
+}

@@ -1,0 +1,20 @@
+//! The columns of a Parquet file, as lists of numbers.
+//!
+//! What is read, and which refusal comes first, is exactly what the definitions in `specs/` say.
+#![tactic(auto)]
+
+mod chunk;
+mod column;
+mod file;
+mod layout;
+mod leaf;
+mod levels;
+mod lists;
+mod numbers;
+mod page;
+
+pub use file::columns;
+pub use lists::Columns;
+
+#[cfg(test)]
+mod tests;
