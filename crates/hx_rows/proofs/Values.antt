@@ -25,7 +25,7 @@ length-beside hps ids xs ys zs = rw (length-zip hps (zip ids (zip xs (zip ys zs)
 
 pub drop-beside : (hps ids xs ys zs : List ℤ) (i : ℕ) → i < length hps → i < length ids → i < length xs → i < length ys → i < length zs
     → drop i (beside hps ids xs ys zs)
-      ≡ (get_or hps i (pos 0), (get_or ids i (pos 0), (get_or xs i (pos 0), (get_or ys i (pos 0), get_or zs i (pos 0))))) ∷ drop (suc i) (beside hps ids xs ys zs)
+    ≡ (get_or hps i (pos 0), (get_or ids i (pos 0), (get_or xs i (pos 0), (get_or ys i (pos 0), get_or zs i (pos 0))))) ∷ drop (suc i) (beside hps ids xs ys zs)
 drop-beside hps ids xs ys zs i a b c d e =
     let zero = pos 0 in
     let yzs = zip ys zs in

@@ -201,3 +201,6 @@ pub(crate) fn parquet_rows(alloc: Global, bytes: &[u8]) -> Result<Vec<Row>, RowR
         Err(refusal) => Err(refused_file(refusal)),
     }
 }
+
+#[cfg(test)]
+mod tests;

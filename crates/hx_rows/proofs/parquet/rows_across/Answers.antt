@@ -16,7 +16,7 @@ returns-in-Err-clause-exact c =
     let i = c.loop-i.i in
     let low : i < c.min-count.result = c.loop-i-test.true in
     let short : (i < length c.args.hps.now) × (i < length c.args.ids.now) × (i < length c.args.xs.now) × (i < length c.args.ys.now) × (i < length c.args.zs.now) =
-        (omega (arith, low), omega (arith, low), omega (arith, low), omega (arith, low), omega (arith, low)) in
+    (omega (arith, low), omega (arith, low), omega (arith, low), omega (arith, low), omega (arith, low)) in
     let here = rw (← c.value_at-hp.ensures, ← c.value_at-id.ensures, ← c.value_at-x.ensures, ← c.value_at-y.ensures, ← c.value_at-z.ensures) at (drop-beside c.args.hps.now c.args.ids.now c.args.xs.now c.args.ys.now c.args.zs.now i short.0 short.1 short.2 short.3 short.4) in
     let hp : FitsSigned w64 c.value_at-hp.result = search rules in
     let id : FitsSigned w64 c.value_at-id.result = search rules in
@@ -24,7 +24,7 @@ returns-in-Err-clause-exact c =
     let y : FitsSigned w64 c.value_at-y.result = search rules in
     let z : FitsSigned w64 c.value_at-z.result = search rules in
     let read = rw (to_z-of_z w64 c.value_at-hp.result hp, to_z-of_z w64 c.value_at-id.result id, to_z-of_z w64 c.value_at-x.result x, to_z-of_z w64 c.value_at-y.result y, to_z-of_z w64 c.value_at-z.result z)
-        at c.numbered_values.ensures.exact in
+    at c.numbered_values.ensures.exact in
     let bad = rw add-one at (sym read ∙ c.in-Err.is) in
     rw (c.refused.ensures, add-one) (sym c.loop-i.invariant.rows ∙ refused-values i _ _ _ _ _ _ _ c.loop-i.rows.items c.in-Err.fault here bad)
 
@@ -34,7 +34,7 @@ loop-i-preserved c =
     let i = c.loop-i.i in
     let low : i < c.min-count.result = c.loop-i-test.true in
     let short : (i < length c.args.hps.now) × (i < length c.args.ids.now) × (i < length c.args.xs.now) × (i < length c.args.ys.now) × (i < length c.args.zs.now) =
-        (omega (arith, low), omega (arith, low), omega (arith, low), omega (arith, low), omega (arith, low)) in
+    (omega (arith, low), omega (arith, low), omega (arith, low), omega (arith, low), omega (arith, low)) in
     let here = rw (← c.value_at-hp.ensures, ← c.value_at-id.ensures, ← c.value_at-x.ensures, ← c.value_at-y.ensures, ← c.value_at-z.ensures) at (drop-beside c.args.hps.now c.args.ids.now c.args.xs.now c.args.ys.now c.args.zs.now i short.0 short.1 short.2 short.3 short.4) in
     let hp : FitsSigned w64 c.value_at-hp.result = search rules in
     let id : FitsSigned w64 c.value_at-id.result = search rules in
@@ -42,7 +42,7 @@ loop-i-preserved c =
     let y : FitsSigned w64 c.value_at-y.result = search rules in
     let z : FitsSigned w64 c.value_at-z.result = search rules in
     let read = rw (to_z-of_z w64 c.value_at-hp.result hp, to_z-of_z w64 c.value_at-id.result id, to_z-of_z w64 c.value_at-x.result x, to_z-of_z w64 c.value_at-y.result y, to_z-of_z w64 c.value_at-z.result z)
-        at c.numbered_values.ensures.exact in
+    at c.numbered_values.ensures.exact in
     let good = rw add-one at (sym read ∙ c.in-Ok-numbered_values.is) in
     let more = collected-values (suc i) _ _ _ _ _ _ c.loop-i.rows.items c.in-Ok-numbered_values.row good in
     record {
