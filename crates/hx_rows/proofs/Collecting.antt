@@ -8,7 +8,7 @@ abbrev pub joined : {E : Type 0} → List Row → Result (List Row) E → Result
 joined front (Ok rows) = Ok (front ++ rows)
 joined front (Err e) = Err e
 
-joined-push : {E : Type 0} (front : List Row) (row : Row) (others : List (Result Row E))
+pub joined-push : {E : Type 0} (front : List Row) (row : Row) (others : List (Result Row E))
     (rest : Result (List Row) E) → collected others ≡ rest → joined (front ++ row ∷ []) (collected others) ≡ joined front (collected (Ok row ∷ others))
 joined-push front row others (Ok rows) h = rw h (ap Ok (append_assoc front (row ∷ []) rows))
 joined-push front row others (Err e) h = rw h refl

@@ -1,8 +1,10 @@
+pub mod Asked
 pub mod Collecting
 pub mod Columns
+pub mod Few
 pub mod Fields
 pub mod Numbers
 pub mod Spelling
+pub mod Values
 pub mod Whole
 pub mod Words
-pub mod Few

@@ -1,5 +1,6 @@
 pub mod Csv
 pub mod Headers
 pub mod Numbers
+pub mod Parquet
 pub mod Reading
 pub mod Unread

@@ -5,6 +5,7 @@ mod digits;
 mod fault;
 mod header;
 mod number;
+mod parquet;
 mod read;
 mod row;
 mod table;

@@ -6,7 +6,7 @@ use crate::digits::natural;
 use crate::fault::Fault;
 
 /// The greatest magnitude of a vector's coordinate, in 10^-9.
-const MOST_COORDINATE: u64 = 2_000_000_000;
+pub(crate) const MOST_COORDINATE: u64 = 2_000_000_000;
 
 // Whether a number has a `-` before its digits, and what stands behind the `-`.
 #[inline]

@@ -1,10 +1,11 @@
-ghost use Rattle.std.specs.Prelude.{◌≤◌, IfOk, All, length};
+ghost use Rattle.std.specs.Prelude.{◌⊎◌, ◌≤◌, IfOk, All, length};
 ghost use Rattle.hx_base.specs.Rows.{IsGood};
-ghost use Rattle.hx_base.specs.FileWords.{IsCsvName};
+ghost use Rattle.hx_base.specs.FileWords.{IsCsvName, IsParquetName};
 ghost use Rattle.hx_rows.specs.Reading.{Reads, rows_of};
 
+use crate::parquet::parquet_rows;
 use crate::table::csv_rows;
-use hx_base::Row;
+use hx_base::{Row, is_parquet_name};
 use std::alloc::Global;
 
 /// Why an input could not be read as rows.
@@ -15,13 +16,18 @@ pub enum RowRefusal {
     Bad { row: u64, why: u8 },
 }
 
-/// The rows of an input, in its order, or its first fault.
+/// The rows of an input, in its order, or its first fault. The end of its name tells its format: `.csv`, `.parquet`.
+#[tactic(auto, unfolding(crate::specs::Reading::rows_of))]
 pub fn read_rows(alloc: Global, name: &str, bytes: &[u8]) -> Result<Vec<Row>, RowRefusal>
-    requires { IsCsvName name.now }
+    requires { IsCsvName name.now ⊎ IsParquetName name.now }
     ensures exact { Reads result (rows_of name.now bytes.now) }
     ensures good { IfOk result (λ rows. All IsGood rows.items) }
     // At most 2^40, the greatest number that a row may have.
     ensures few { IfOk result (λ rows. length rows.items ≤ 1099511627776) }
 {
-    csv_rows(alloc, bytes)
+    if is_parquet_name(name) {
+        parquet_rows(alloc, bytes)
+    } else {
+        csv_rows(alloc, bytes)
+    }
 }

@@ -11,19 +11,19 @@ use csv::ByteRecord;
 use hx_base::Row;
 
 /// The most rows of an input.
-const MOST_ROWS: u64 = 1_099_511_627_776;
+pub(crate) const MOST_ROWS: u64 = 1_099_511_627_776;
 
 /// The last pixel of order 29.
-const LAST_PIXEL: u64 = 3_458_764_513_820_540_927;
+pub(crate) const LAST_PIXEL: u64 = 3_458_764_513_820_540_927;
 
 /// The magnitudes of the least and of the greatest number that an i64 holds.
 const MOST_NEGATIVE: u64 = 9_223_372_036_854_775_808;
 
 const MOST_POSITIVE: u64 = 9_223_372_036_854_775_807;
 
-// A row whose vector is of unit length, up to rounding.
+/// A row whose vector is of unit length, up to rounding.
 #[inline]
-fn with_unit_vector(row: Row) -> Result<Row, Fault>
+pub(crate) fn with_unit_vector(row: Row) -> Result<Row, Fault>
     requires { row.hp < 12 * 4 ^ 29 }
     ensures exact { result ≡ with_unit_vector row }
     ensures good { IfOk result IsGood }

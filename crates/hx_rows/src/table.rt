@@ -26,8 +26,8 @@ fn read_next(reader: &mut Reader<&[u8]>, fields: &mut ByteRecord) -> Result<bool
     Ok(found)
 }
 
-// The refusal of a fault in a row.
-fn refused(row: u64, fault: Fault) -> RowRefusal
+/// The refusal of a fault in a row.
+pub(crate) fn refused(row: u64, fault: Fault) -> RowRefusal
     ensures { result ≡ RowRefusal.Bad row (fault_number fault) }
 {
     RowRefusal::Bad {
