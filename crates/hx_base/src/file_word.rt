@@ -44,8 +44,7 @@ pub fn is_csv_name(name: &str) -> bool
     ends_in(name, b".csv")
 }
 
-/// Whether a name ends in `.parquet`.
-pub fn is_parquet_name(name: &str) -> bool
+fn is_parquet_name(name: &str) -> bool
     ensures { IsTrue result ↔ IsParquetName name.now }
 {
     ends_in(name, b".parquet")

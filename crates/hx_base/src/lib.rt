@@ -10,7 +10,7 @@ mod refusal;
 mod row;
 mod settings;
 
-pub use file_word::{FileWord, is_csv_name, is_file_word, is_parquet_name};
+pub use file_word::{FileWord, is_csv_name, is_file_word};
 pub use laws::{order_of_rows, partitions_of_rows, rows_in_a_pixel};
 pub use name::Name;
 pub use pixel::Pixel;
