@@ -1,6 +1,6 @@
-ghost use Rattle.std.specs.Prelude.{◌≤◌, IfOk, All, length};
+ghost use Rattle.std.specs.Prelude.{◌≤◌, ◌⊎◌, IfOk, All, length};
 ghost use Rattle.hx_base.specs.Rows.{IsGood};
-ghost use Rattle.hx_base.specs.FileWords.{IsCsvName};
+ghost use Rattle.hx_base.specs.FileWords.{IsCsvName, IsParquetName};
 ghost use Rattle.hx_rows.specs.Reading.{Reads, rows_of};
 
 use crate::table::csv_rows;
@@ -17,7 +17,7 @@ pub enum RowRefusal {
 
 /// The rows of an input, in its order, or its first fault.
 pub fn read_rows(alloc: Global, name: &str, bytes: &[u8]) -> Result<Vec<Row>, RowRefusal>
-    requires { IsCsvName name.now }
+    requires { IsCsvName name.now ⊎ IsParquetName name.now }
     ensures exact { Reads result (rows_of name.now bytes.now) }
     ensures good { IfOk result (λ rows. All IsGood rows.items) }
     // At most 2^40, the greatest number that a row may have.
