@@ -3,7 +3,8 @@ use Rattle.std.proofs.Common.{◌≡◌, ◌≢◌, ◌+◌, ◌^◌, ◌<◌, �
 use Rattle.std.specs.Fmt.{decimal}
 use Rattle.std.specs.Option.{option_or, unwrap_or}
 use Rattle.std.specs.Prelude.{codes, slice_index}
-use Rattle.hx_cli.specs.Words.{AreFiles, IsCsvWord, IsPlanLine, value_of}
+use Rattle.hx_base.specs.FileWords.{IsFileWord}
+use Rattle.hx_cli.specs.Words.{AreFiles, IsPlanLine, value_of}
 use Rattle.std.proofs.lemmas.Bool.{cases_Bool}
 use Rattle.std.proofs.lemmas.Fmt.{decimal_injective}
 use Rattle.hx_cli.specs.Options.{AreFurther, AreNew, AreOptions, AreRead, BeginsNoOption, InRange, default_of, given_in, is_option, kept, option_words, word_of}
@@ -186,9 +187,9 @@ dashed option.Threshold = refl
 -- no input's name is an option's
 pub files_end : (files : List (List ℕ)) → AreFiles files → BeginsNoOption files
 files_end files are name more is =
-    let all : All IsCsvWord (word_of name ∷ more) = rw is at are.each in
-    let first : IsCsvWord (word_of name) = all 0 [] (omega arith) in
-    first.file.no_option (dashed name)
+    let all : All IsFileWord (word_of name ∷ more) = rw is at are.each in
+    let first : IsFileWord (word_of name) = all 0 [] (omega arith) in
+    first.no_option (dashed name)
 
 or-none : (a b : Option ℕ) → b ≡ None → option_or a b ≡ a
 or-none None b none = none

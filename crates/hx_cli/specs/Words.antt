@@ -2,7 +2,7 @@
 use Rattle.std.specs.Prelude.{◌≡◌, ◌≢◌, ◌<◌, ◌≤◌, ◌*◌, ◌^◌, ◌++◌, ◌∷◌, ℕ, slice_index, List, [], length, All, codes}
 use Rattle.std.specs.Fmt.{decimal}
 use Rattle.std.specs.Option.{unwrap_or}
-use Rattle.hx_base.specs.FileWords.{IsFileWord, IsCsvName}
+use Rattle.hx_base.specs.FileWords.{IsFileWord}
 use Rattle.hx_cli.specs.Options.{AreOptions, default_of, given_in, option_words}
 use Rattle.hx_cli.specs.declared.options.OptionName.{OptionName}
 use Rattle.hx_cli.specs.declared.options.OptionName.TheVariants as option
@@ -19,15 +19,10 @@ files_of (Histogram order files) = files
 files_of (Plan lowest highest threshold files) = files
 files_of (Around order pixel) = []
 
--- a file word that ends in `.csv`
-pub record IsCsvWord (word : List ℕ) : Type 0 where
-  pub file : IsFileWord word
-  pub csv : IsCsvName word
-
 -- the words that name a command's inputs, at least one
 pub record AreFiles (words : List (List ℕ)) : Type 0 where
   pub some : 1 ≤ length words
-  pub each : All IsCsvWord words
+  pub each : All IsFileWord words
 
 -- a text that may be a decimal number by its first byte: `0` stands alone, and there is no sign
 pub record BeginsNumber (text : List ℕ) : Type 0 where

@@ -1,7 +1,7 @@
 //! An input, read whole and as rows.
-ghost use Rattle.std.specs.Prelude.{◌≡◌, ◌+◌, ◌^◌, ◌<◌, ◌≤◌, Ok, All, IfErr, IfOk, IfSome, length, take, vec_len};
+ghost use Rattle.std.specs.Prelude.{◌≡◌, ◌⊎◌, ◌+◌, ◌^◌, ◌<◌, ◌≤◌, Ok, All, IfErr, IfOk, IfSome, length, take, vec_len};
 ghost use Rattle.hx_base.specs.Rows.{IsGood};
-ghost use Rattle.hx_base.specs.FileWords.{IsCsvName};
+ghost use Rattle.hx_base.specs.FileWords.{IsCsvName, IsParquetName};
 ghost use Rattle.hx_outside.specs.Sources.{SameSource};
 ghost use Rattle.hx_rows.specs.Reading.{rows_of};
 ghost use Rattle.hx_cli.specs.FirstRefusal.{Shows, fault_of};
@@ -85,7 +85,7 @@ pub fn read_input<Src: Source>(
     source: &mut Src,
     number: u32,
 ) -> Result<Vec<Row>, Refusal>
-    requires { IsCsvName (Src.label source.old) }
+    requires { IsCsvName (Src.label source.old) ⊎ IsParquetName (Src.label source.old) }
     ensures rows { IfOk result (λ rows. IfSome (Src.told source.old) (λ bytes.
         rows_of (Src.label source.old) bytes ≡ Ok rows.items)) }
     ensures good { IfOk result (λ rows. All IsGood rows.items) }

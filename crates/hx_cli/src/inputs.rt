@@ -1,8 +1,8 @@
 //! All inputs of a line: whether they keep to the limits, and the counts of their rows.
-ghost use Rattle.std.specs.Prelude.{◌≡◌, ◌+◌, ◌^◌, ◌<◌, ◌≤◌, ℕ, List, All, Err, IfErr, IfOk, IfSome, Ok, OnOk, length, map};
+ghost use Rattle.std.specs.Prelude.{◌≡◌, ◌⊎◌, ◌+◌, ◌^◌, ◌<◌, ◌≤◌, ℕ, List, All, Err, IfErr, IfOk, IfSome, Ok, OnOk, length, map};
 ghost use Rattle.std.specs.Option.{option_or};
 ghost use Rattle.std.specs.Result.{result_err};
-ghost use Rattle.hx_base.specs.FileWords.{IsCsvName};
+ghost use Rattle.hx_base.specs.FileWords.{IsCsvName, IsFileWord, IsParquetName};
 ghost use Rattle.hx_cli.specs.Histograms.{count_in};
 ghost use Rattle.hx_base.specs.declared.refusal.Refusal.TheVariants.{TooMany};
 ghost use Rattle.hx_base.specs.declared.row.Row.{Row};
@@ -13,7 +13,6 @@ ghost use Rattle.hx_cli.specs.FirstRefusal.{AreRows, Shows, bad_input, fault_of,
 ghost use Rattle.hx_cli.specs.Limits.{above, most_bytes, most_inputs};
 ghost use Rattle.hx_cli.specs.Inputs.{IsInputCause};
 ghost use Rattle.hx_cli.specs.Runs.{IsInputsCause, SameSources, Tell};
-ghost use Rattle.hx_cli.specs.Words.{IsCsvWord};
 
 use crate::counting::count_rows;
 use crate::input::read_input;
@@ -106,7 +105,7 @@ fn count_input<Src: Source>(
     number: u32,
     counts: &mut Hist,
 ) -> Result<(), Refusal>
-    requires name { IsCsvName (Src.label source.old) }
+    requires name { IsCsvName (Src.label source.old) ⊎ IsParquetName (Src.label source.old) }
     requires total { total_of counts.old.pairs + 2 ^ 40 < 2 ^ 64 }
     ensures order { counts.new.order ≡ counts.old.order }
     ensures total { OnOk result (total_of counts.new.pairs ≤ total_of counts.old.pairs + 2 ^ 40) }
@@ -134,7 +133,7 @@ pub fn count_inputs<Src: Source>(
 ) -> Result<Hist, Refusal>
     requires order { order ≤ 29 }
     requires few { length inputs.old.items ≤ most_inputs }
-    requires names { All IsCsvWord (map Src.label inputs.old.items) }
+    requires names { All IsFileWord (map Src.label inputs.old.items) }
     ensures order { IfOk result (λ counts. counts.order ≡ order) }
     ensures counts { let names = map Src.label inputs.old.items in
         (bytes : List (List ℕ)) → Tell Src.told inputs.old.items bytes → IfOk result (λ counts.

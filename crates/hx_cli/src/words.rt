@@ -2,15 +2,16 @@
 ghost use Rattle.std.specs.Prelude.{◌≡◌, ◌≢◌, ◌≤◌, ◌<◌, ◌*◌, ◌^◌, ◌∷◌, [], ℕ, All, IfSome, MatchOption, IsTrue, ◌↔◌, codes, length, map, string_bytes, drop, List};
 ghost use Rattle.std.specs.Fmt.{decimal};
 ghost use Rattle.std.specs.Option.{unwrap_or};
+ghost use Rattle.hx_base.specs.FileWords.{IsFileWord};
 ghost use Rattle.hx_cli.specs.Options.{InRange, kept};
 ghost use Rattle.hx_cli.specs.Requests.{IsRequest};
-ghost use Rattle.hx_cli.specs.Words.{AreFiles, HasNoMeaning, IsCsvWord, IsAroundLine, IsHistogramLine, IsPlanLine};
+ghost use Rattle.hx_cli.specs.Words.{AreFiles, HasNoMeaning, IsAroundLine, IsHistogramLine, IsPlanLine};
 ghost use Rattle.hx_cli.specs.declared.options.OptionName.{OptionName};
 ghost use Rattle.hx_cli.specs.declared.options.OptionName.TheVariants.{Highest, Lowest, Threshold};
 
 use crate::number::{number, order};
 use crate::options::{Options, read_options};
-use hx_base::{is_csv_name, is_file_word};
+use hx_base::is_file_word;
 
 /// A command with its values.
 #[derive(Clone, Copy, Debug, PartialEq, Eq)]
@@ -46,24 +47,18 @@ const DEFAULT_HIGHEST: u64 = 7;
 
 const DEFAULT_THRESHOLD: u64 = 1_000_000;
 
-fn is_csv_word(word: &str) -> bool
-    ensures { IsTrue result ↔ IsCsvWord word.now }
+// Whether each word may name an input.
+fn are_file_words(words: &[String]) -> bool
+    ensures { IsTrue result ↔ All (λ word. IsFileWord (string_bytes word)) words.now }
 {
-    is_file_word(word) && is_csv_name(word)
-}
-
-// Whether each word is a file word that ends in `.csv`.
-fn are_csv_words(words: &[String]) -> bool
-    ensures { IsTrue result ↔ All (λ word. IsCsvWord (string_bytes word)) words.now }
-{
-    words.iter().all(|word| is_csv_word(word.as_str()))
+    words.iter().all(|word| is_file_word(word.as_str()))
 }
 
 // Whether the words name inputs, at least one.
 fn are_files(words: &[String]) -> bool
     ensures { IsTrue result ↔ AreFiles (map string_bytes words.now) }
 {
-    !words.is_empty() && are_csv_words(words)
+    !words.is_empty() && are_file_words(words)
 }
 
 // The order of a line `histogram K FILE...`, by its parts.

@@ -3,14 +3,14 @@ use Rattle.std.proofs.lemmas.List.{length-map}
 use Rattle.hx_cli.proofs.FirstRefusals.{bad_next, passed_here, refused_here, rows_next}
 use Rattle.hx_cli.proofs.HistCounts.{count_more}
 use Rattle.hx_cli.proofs.Sources.{label_here, of_name, same_names, same_next, tell_length, told_here}
-use Rattle.hx_cli.specs.Words.{IsCsvWord}
+use Rattle.hx_base.specs.FileWords.{IsFileWord}
 use Rattle.hx_cli.proofs.inputs.count_inputs.Goals as goal
 
 pub count_input-requires-clause-name : goal.count_input-requires-clause-name
 count_input-requires-clause-name g c =
     let label = g.Src.Source.label in
-    let names : All IsCsvWord (map label c.loop-number.inputs.items) = rw (same_names g.Src.Source.told label g.Src.Source.faults c.args.inputs.now.items c.loop-number.inputs.items c.loop-number.invariant.same) c.requires.names in
-    (of_name IsCsvWord label c.loop-number.inputs.items c.loop-number.number c.index_mut.result.now (omega arith) c.index_mut.ensures.value names).csv
+    let names : All IsFileWord (map label c.loop-number.inputs.items) = rw (same_names g.Src.Source.told label g.Src.Source.faults c.args.inputs.now.items c.loop-number.inputs.items c.loop-number.invariant.same) c.requires.names in
+    (of_name IsFileWord label c.loop-number.inputs.items c.loop-number.number c.index_mut.result.now (omega arith) c.index_mut.ensures.value names).suffix
 
 pub returns-in_err-count_input-clause-first : goal.returns-in_err-count_input-clause-first
 returns-in_err-count_input-clause-first g c = λ (bytes : List (List ℕ)). λ tell.
