@@ -1,6 +1,7 @@
 //! The top call over sources and sinks in memory. The expected texts are counted by hand.
 mod around;
 mod blank;
+mod parquet;
 mod plan;
 mod several;
 mod slow;
@@ -205,7 +206,7 @@ fn lines_without_a_meaning(rt: HostRuntime) -> Result<(), Fail> {
         "histogram 0 a.csv -b.csv",
         "histogram a.csv",
         "histogram 0 a.txt",
-        "histogram 0 a.parquet",
+        "histogram 0 a.parquets",
         "histogram 0 -a.csv",
         "histogram --x 0 a.csv",
         "-h",
