@@ -163,9 +163,14 @@ const THREE_ROWS: [u8; 755] = [
     0xad, 0x01, 0x00, 0x00, 0x50, 0x41, 0x52, 0x31,
 ];
 
+const ONE: &[u8] = &ONE_ROW;
+
+const THREE: &[u8] = &THREE_ROWS;
+
+const CSV: &[u8] = b"id,_healpix_29,cx,cy,cz\n7,0,1000000000,0,0\n";
+
 #[test]
 fn parquet_inputs(rt: HostRuntime) -> Result<(), Fail> {
-    let csv = b"id,_healpix_29,cx,cy,cz\n7,0,1000000000,0,0\n".as_slice();
     let no_id = Refusal::BadInput {
         input: 0,
         row: 0,
@@ -177,29 +182,29 @@ fn parquet_inputs(rt: HostRuntime) -> Result<(), Fail> {
         why: 9,
     };
     let cases: [(&str, &[&[u8]], Option<Refusal>, &[u8]); 6] = [
-        ("histogram 0 f.parquet", &[&ONE_ROW], Some(no_id), b""),
-        ("histogram 0 f.parquet", &[&THREE_ROWS], None, b"0,1\n1,2\n"),
+        ("histogram 0 f.parquet", &[ONE], Some(no_id), b""),
+        ("histogram 0 f.parquet", &[THREE], None, b"0,1\n1,2\n"),
         (
             "histogram 0 a.csv f.parquet",
-            &[csv, &THREE_ROWS],
+            &[CSV, THREE],
             None,
             b"0,2\n1,2\n",
         ),
         (
             "histogram 0 f.parquet a.csv.parquet",
-            &[&THREE_ROWS, csv],
+            &[THREE, CSV],
             Some(no_file),
             b"",
         ),
         (
             "plan --highest 1 --threshold 1 f.parquet",
-            &[&THREE_ROWS],
+            &[THREE],
             None,
             b"0,0,1\n1,4,1\n1,7,1\n",
         ),
         (
             "plan --highest 0 --threshold 2 f.parquet a.csv",
-            &[&THREE_ROWS, csv],
+            &[THREE, CSV],
             None,
             b"0,0,2\n0,1,2\n",
         ),
