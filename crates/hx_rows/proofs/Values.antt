@@ -1,5 +1,5 @@
 -- The rows of columns' values, which are collected one after the other.
-use Rattle.std.proofs.Common.{◌≡◌, ◌++◌, ◌∷◌, ◌+◌, ◌≤◌, ◌<◌, [], drop-cons, List, ℕ, ℤ, Ok, Err, refl, suc, arith, length, drop, get_or, pos, min, nat_lt, false}
+use Rattle.std.proofs.Common.{◌≡◌, ◌++◌, ◌∷◌, ◌≤◌, ◌<◌, [], drop-cons, List, ℕ, ℤ, Ok, Err, refl, suc, arith, length, drop, get_or, pos, min, nat_lt, false}
 use Rattle.std.specs.List.{zip}
 use Rattle.std.proofs.lemmas.Bool.{le-ltb}
 use Rattle.std.proofs.lemmas.Slice.Zip.{length-zip, get_or-zip}

@@ -1,6 +1,6 @@
 -- The rows of a Parquet input, or its first fault.
 -- Its columns are those that the contract of hx_pqread gives of the bytes.
-use Rattle.std.specs.Prelude.{◌∷◌, ◌+◌, ℕ, suc, ℤ, pos, neg_ℤ, if◌then◌else◌, List, [], slice_index_or, Result, Ok, Err, nat_lt, unsigned_abs, codes}
+use Rattle.std.specs.Prelude.{◌∷◌, ℕ, suc, ℤ, pos, neg_ℤ, if◌then◌else◌, List, [], slice_index_or, Result, Ok, Err, nat_lt, unsigned_abs, codes}
 use Rattle.std.specs.List.{zip}
 use Rattle.hx_base.specs.declared.row.Row.{Row}
 use Rattle.hx_pqmeta.specs.declared.refusal.PqRefusal.{PqRefusal}
@@ -41,7 +41,7 @@ in_file (Err refusal) = Err (file_fault refusal)
 abbrev pub Values : Type 0
 Values = ℤ × (ℤ × (ℤ × (ℤ × ℤ)))
 
--- the values of each row
+-- the values of each row; the columns of a file have equally many
 abbrev pub across : List (List ℤ) → List Values
 across columns =
     let column = λ (k : ℕ). slice_index_or columns k [] in

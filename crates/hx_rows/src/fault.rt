@@ -1,7 +1,7 @@
 ghost use Rattle.std.specs.Prelude.{◌≡◌};
 ghost use Rattle.hx_rows.specs.Csv.{fault_number};
 
-/// What is wrong with an input, and in which of its rows it is looked for.
+/// What is wrong with a header or with a row.
 #[derive(Clone, Copy, Debug, PartialEq, Eq)]
 pub enum Fault {
     /// There is no header record, or it has one of the five names not exactly once.

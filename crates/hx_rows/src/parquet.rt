@@ -1,8 +1,8 @@
-ghost use Rattle.std.specs.Prelude.{◌≡◌, ◌<◌, ◌≤ℤ◌, length, slice_index_or, pos, IfOk, Ok, Err, All, List, ℤ, map, string_bytes};
+ghost use Rattle.std.specs.Prelude.{◌≡◌, ◌<◌, ◌≤ℤ◌, ℕ, length, slice_index_or, pos, IfOk, Ok, Err, All, List, ℤ, map, string_bytes};
 ghost use Rattle.std.specs.List.{zip};
 ghost use Rattle.hx_base.specs.Rows.{IsGood};
 ghost use Rattle.hx_pqmeta.specs.Refusals.{AnswersOrWants};
-ghost use Rattle.hx_pqread.specs.Columns.{columns_in};
+ghost use Rattle.hx_pqread.specs.Columns.{HaveRows, columns_in};
 ghost use Rattle.hx_rows.specs.Csv.{collected, within};
 ghost use Rattle.hx_rows.specs.Parquet.{coordinate_of, file_fault, five_names, numbered_values, outcomes_of_values, parquet_rows, position_of, row_of_values};
 ghost use Rattle.hx_rows.specs.Reading.{Reads};
@@ -95,7 +95,7 @@ fn value_at(column: &[i64], row: usize) -> i64
     column[row]
 }
 
-// The rows of five columns.
+// The rows of five columns, which have equally many values.
 fn rows_across(
     alloc: Global,
     hps: &[i64],
@@ -104,20 +104,18 @@ fn rows_across(
     ys: &[i64],
     zs: &[i64],
 ) -> Result<Vec<Row>, RowRefusal>
+    requires ids { length ids.now ≡ length hps.now }
+    requires xs { length xs.now ≡ length hps.now }
+    requires ys { length ys.now ≡ length hps.now }
+    requires zs { length zs.now ≡ length hps.now }
     ensures exact { Reads result (collected (outcomes_of_values 1 (zip hps.now (zip ids.now (zip xs.now (zip ys.now zs.now)))))) }
     ensures good { IfOk result (λ rows. All IsGood rows.items) }
 {
-    let count = hps
-        .len()
-        .min(ids.len())
-        .min(xs.len())
-        .min(ys.len())
-        .min(zs.len());
     let mut rows = Vec::new(alloc);
-    let Ok(()) = rows.reserve_exact(count) else {
+    let Ok(()) = rows.reserve_exact(hps.len()) else {
         return Err(RowRefusal::Memory);
     };
-    for i in 0..count {
+    for i in 0..hps.len() {
         let number = i as u64 + 1;
         let hp = value_at(hps, i);
         let id = value_at(ids, i);
@@ -177,7 +175,9 @@ fn five_names(alloc: Global) -> Result<[String; 5], AllocError>
 
 // The columns of these names.
 fn five_columns(alloc: Global, bytes: &[u8]) -> Result<Columns, PqRefusal>
-    ensures { AnswersOrWants (λ (columns : List (List ℤ)). columns) result (columns_in bytes.now five_names) }
+    ensures count { IfOk result (λ columns. length columns ≡ 5) }
+    ensures rows { IfOk result (λ columns. (rows : ℕ) × HaveRows rows columns) }
+    ensures value { AnswersOrWants (λ (columns : List (List ℤ)). columns) result (columns_in bytes.now five_names) }
 {
     let names = five_names(alloc)?;
     columns(alloc, bytes, &names)

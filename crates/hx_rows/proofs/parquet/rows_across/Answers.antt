@@ -1,4 +1,4 @@
-use Rattle.std.proofs.Common.{◌≡◌, ◌∙◌, ◌<◌, Ok, arith, add-one, ap, append-nil, length, rules, suc, sym}
+use Rattle.std.proofs.Common.{◌∙◌, ◌<◌, Ok, arith, add-one, ap, append-nil, length, rules, suc, sym}
 use Rattle.std.specs.Int.{w64}
 use Rattle.std.specs.Int.RustNames.{FitsSigned}
 use Rattle.std.proofs.lemmas.Int.{to_z-of_z}
@@ -14,10 +14,9 @@ use Rattle.hx_rows.proofs.parquet.rows_across.Goals as goal
 pub returns-in-Err-clause-exact : goal.returns-in-Err-clause-exact
 returns-in-Err-clause-exact c =
     let i = c.loop-i.i in
-    let low : i < c.min-count.result = c.loop-i-test.true in
-    let short : (i < length c.args.hps.now) × (i < length c.args.ids.now) × (i < length c.args.xs.now) × (i < length c.args.ys.now) × (i < length c.args.zs.now) =
-    (omega (arith, low), omega (arith, low), omega (arith, low), omega (arith, low), omega (arith, low)) in
-    let here = rw (← c.value_at-hp.ensures, ← c.value_at-id.ensures, ← c.value_at-x.ensures, ← c.value_at-y.ensures, ← c.value_at-z.ensures) at (drop-beside c.args.hps.now c.args.ids.now c.args.xs.now c.args.ys.now c.args.zs.now i short.0 short.1 short.2 short.3 short.4) in
+    let low : i < length c.args.hps.now = c.loop-i-test.true in
+    let here = rw (← c.value_at-hp.ensures, ← c.value_at-id.ensures, ← c.value_at-x.ensures, ← c.value_at-y.ensures, ← c.value_at-z.ensures) at (drop-beside c.args.hps.now c.args.ids.now c.args.xs.now c.args.ys.now c.args.zs.now i
+    low (omega (arith, low)) (omega (arith, low)) (omega (arith, low)) (omega (arith, low))) in
     let hp : FitsSigned w64 c.value_at-hp.result = search rules in
     let id : FitsSigned w64 c.value_at-id.result = search rules in
     let x : FitsSigned w64 c.value_at-x.result = search rules in
@@ -32,10 +31,9 @@ pub loop-i-preserved : goal.loop-i-preserved
 loop-i-preserved c =
     let inv = c.loop-i.invariant in
     let i = c.loop-i.i in
-    let low : i < c.min-count.result = c.loop-i-test.true in
-    let short : (i < length c.args.hps.now) × (i < length c.args.ids.now) × (i < length c.args.xs.now) × (i < length c.args.ys.now) × (i < length c.args.zs.now) =
-    (omega (arith, low), omega (arith, low), omega (arith, low), omega (arith, low), omega (arith, low)) in
-    let here = rw (← c.value_at-hp.ensures, ← c.value_at-id.ensures, ← c.value_at-x.ensures, ← c.value_at-y.ensures, ← c.value_at-z.ensures) at (drop-beside c.args.hps.now c.args.ids.now c.args.xs.now c.args.ys.now c.args.zs.now i short.0 short.1 short.2 short.3 short.4) in
+    let low : i < length c.args.hps.now = c.loop-i-test.true in
+    let here = rw (← c.value_at-hp.ensures, ← c.value_at-id.ensures, ← c.value_at-x.ensures, ← c.value_at-y.ensures, ← c.value_at-z.ensures) at (drop-beside c.args.hps.now c.args.ids.now c.args.xs.now c.args.ys.now c.args.zs.now i
+    low (omega (arith, low)) (omega (arith, low)) (omega (arith, low)) (omega (arith, low))) in
     let hp : FitsSigned w64 c.value_at-hp.result = search rules in
     let id : FitsSigned w64 c.value_at-id.result = search rules in
     let x : FitsSigned w64 c.value_at-x.result = search rules in
