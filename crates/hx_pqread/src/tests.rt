@@ -1,7 +1,44 @@
+//! Columns of files that are made here, or stand here byte by byte. The expected numbers are counted by hand.
+mod bodies;
+mod files;
+mod making;
+
 use super::*;
 use hx_pqmeta::PqRefusal;
-use std::alloc::Global;
-use std::test::*;
+use std::alloc::{AllocError, Global};
+use std::process::Abort;
+use std::test::Fail;
+
+type Expected = Result<&'static [&'static [i64]], PqRefusal>;
+
+// The columns of these names.
+fn read(alloc: Global, file: &[u8], names: &[&str]) -> Result<Columns, PqRefusal> {
+    let mut asked = Vec::new(alloc);
+    for name in names {
+        asked.push(String::from_str(alloc, name)?)?;
+    }
+    columns(alloc, file, &asked)
+}
+
+// A file's columns of these names have these numbers, or are refused.
+fn check(
+    rt: &impl Abort,
+    alloc: Global,
+    file: &[u8],
+    names: &[&str],
+    expected: Expected,
+) -> Result<(), Fail> {
+    match (read(alloc, file, names), expected) {
+        (Ok(columns), Ok(lists)) => {
+            assert_eq!(rt; columns.count(), lists.len());
+            for i in 0..columns.count() {
+                assert_eq!(rt; Some(columns.column(i)), lists.get(i).copied());
+            }
+        }
+        (read, expected) => assert_eq!(rt; read.err(), expected.err(), "{}", file.escape_ascii()),
+    }
+    Ok(())
+}
 
 // A file with one leaf, `id`, OPTIONAL INT64, and one row with the value 7.
 const ONE_ROW: [u8; 105] = [
@@ -61,19 +98,7 @@ const TWO_GROUPS: [u8; 282] = [
     0x50, 0x41, 0x52, 0x31, // PAR1
 ];
 
-// The numbers of the column of a name.
-fn numbers(alloc: Global, file: &[u8], name: &str) -> Result<Vec<i64>, PqRefusal> {
-    let mut names = Vec::new(alloc);
-    names.push(name.to_owned(alloc)?)?;
-    let read = columns(alloc, file, &names)?;
-    if read.count() == 1 {
-        Ok(read.column(0).to_vec(alloc)?)
-    } else {
-        Err(PqRefusal::Memory)
-    }
-}
-
-fn with_byte(alloc: Global, place: usize, byte: u8) -> Result<Vec<u8>, PqRefusal> {
+fn with_byte(alloc: Global, place: usize, byte: u8) -> Result<Vec<u8>, AllocError> {
     let mut file = ONE_ROW.to_vec(alloc)?;
     if place < file.len() {
         file[place] = byte;
@@ -81,72 +106,65 @@ fn with_byte(alloc: Global, place: usize, byte: u8) -> Result<Vec<u8>, PqRefusal
     Ok(file)
 }
 
-fn refusal(alloc: Global, place: usize, byte: u8, name: &str) -> Option<PqRefusal> {
-    match with_byte(alloc, place, byte) {
-        Ok(file) => numbers(alloc, &file, name).err(),
-        Err(refusal) => Some(refusal),
-    }
-}
-
-// The refusal of a read of two columns.
-fn refusal_of_two(alloc: Global, first: &str, second: &str) -> Result<(), PqRefusal> {
-    let mut names = Vec::new(alloc);
-    names.push(first.to_owned(alloc)?)?;
-    names.push(second.to_owned(alloc)?)?;
-    let _read = columns(alloc, &TWO_GROUPS, &names)?;
-    Ok(())
+#[test]
+fn one_row(rt: HostRuntime) -> Result<(), Fail> {
+    check(&rt, rt.alloc(), &ONE_ROW, &["id"], Ok(&[&[7]]))?;
+    check(&rt, rt.alloc(), &ONE_ROW, &["id", "id"], Ok(&[&[7], &[7]]))?;
+    check(&rt, rt.alloc(), &ONE_ROW, &[], Ok(&[]))
 }
 
 #[test]
-fn two_columns(rt: HostRuntime) {
-    assert_eq!(rt;
-        refusal_of_two(rt.alloc(), "a", "b"),
-        Err(PqRefusal::Null { row: 1 })
-    );
-    assert_eq!(rt;
-        refusal_of_two(rt.alloc(), "b", "c"),
-        Err(PqRefusal::Column { column: 1 })
-    );
+fn two_groups(rt: HostRuntime) -> Result<(), Fail> {
+    check(&rt, rt.alloc(), &TWO_GROUPS, &["a"], Ok(&[&[-1, 5, 6]]))?;
+    let null = Err(PqRefusal::Null { row: 1 });
+    check(&rt, rt.alloc(), &TWO_GROUPS, &["b"], null)?;
+    check(&rt, rt.alloc(), &TWO_GROUPS, &["a", "b"], null)?;
+    let no_column = Err(PqRefusal::Column { column: 1 });
+    check(&rt, rt.alloc(), &TWO_GROUPS, &["b", "c"], no_column)
 }
 
+// Each with another byte at a place.
 #[test]
-fn one_row(rt: HostRuntime) {
-    match numbers(rt.alloc(), &ONE_ROW, "id") {
-        Ok(read) => assert_eq!(rt; read.as_slice(), [7i64].as_slice()),
-        Err(refusal) => panic!(rt; "{refusal:?}"),
-    }
-}
-
-#[test]
-fn two_groups(rt: HostRuntime) {
-    match numbers(rt.alloc(), &TWO_GROUPS, "a") {
-        Ok(read) => assert_eq!(rt; read.as_slice(), [-1i64, 5, 6].as_slice()),
-        Err(refusal) => panic!(rt; "{refusal:?}"),
-    }
-    let read = numbers(rt.alloc(), &TWO_GROUPS, "b").err();
-    assert_eq!(rt; read, Some(PqRefusal::Null { row: 1 }));
-}
-
-#[test]
-fn refusals(rt: HostRuntime) {
+fn changed_bytes(rt: HostRuntime) -> Result<(), Fail> {
     let cases = [
-        (80usize, 0x02u8, PqRefusal::Codec { column: 0 }),
-        (26, 0x00, PqRefusal::Bounds { column: 0 }),
-        (12, 0x04, PqRefusal::Bounds { column: 0 }),
+        // The page: its type, its encodings, its sizes, its number of values.
+        (5usize, 0x02u8, PqRefusal::Encoding { column: 0 }),
+        (14, 0x10, PqRefusal::Encoding { column: 0 }),
+        (16, 0x08, PqRefusal::Encoding { column: 0 }),
         (7, 0x1e, PqRefusal::Bounds { column: 0 }),
-        (5, 0x02, PqRefusal::Encoding { column: 0 }),
+        (12, 0x04, PqRefusal::Bounds { column: 0 }),
+        (12, 0x00, PqRefusal::Bounds { column: 0 }),
+        // Fields of its header with another kind than theirs, and one that isn't a kind.
+        (4, 0x16, PqRefusal::Missing { field: 601 }),
+        (6, 0x16, PqRefusal::Missing { field: 602 }),
+        (8, 0x16, PqRefusal::Missing { field: 603 }),
+        (10, 0x3c, PqRefusal::Missing { field: 605 }),
+        (11, 0x16, PqRefusal::Missing { field: 701 }),
+        (13, 0x16, PqRefusal::Missing { field: 702 }),
+        (15, 0x16, PqRefusal::Missing { field: 703 }),
+        (8, 0x1d, PqRefusal::Thrift { at: 8 }),
+        // Its levels: their length, their run, their level.
+        (21, 0x03, PqRefusal::Bounds { column: 0 }),
         (25, 0x00, PqRefusal::Bounds { column: 0 }),
+        (26, 0x00, PqRefusal::Bounds { column: 0 }),
         (26, 0x02, PqRefusal::Bounds { column: 0 }),
+        // The leaf: its type, its name.
         (51, 0x0a, PqRefusal::Column { column: 0 }),
         (56, 0x6a, PqRefusal::Column { column: 0 }),
+        // The chunk: its meta data, and of these the codec, the number of values, the place of the page.
+        (67, 0x2c, PqRefusal::Missing { field: 403 }),
+        (79, 0x16, PqRefusal::Missing { field: 504 }),
+        (80, 0x02, PqRefusal::Codec { column: 0 }),
+        (81, 0x15, PqRefusal::Missing { field: 505 }),
+        (82, 0x04, PqRefusal::Bounds { column: 0 }),
+        (87, 0x25, PqRefusal::Missing { field: 509 }),
+        (88, 0x06, PqRefusal::Bounds { column: 0 }),
+        // The footer's length.
         (97, 0x60, PqRefusal::NotParquet),
     ];
-    for case in cases {
-        let (place, byte, wanted) = case;
-        assert_eq!(rt;
-            refusal(rt.alloc(), place, byte, "id"),
-            Some(wanted),
-            "{place}"
-        );
+    for (place, byte, refusal) in cases {
+        let file = with_byte(rt.alloc(), place, byte)?;
+        check(&rt, rt.alloc(), &file, &["id"], Err(refusal))?;
     }
+    Ok(())
 }
