@@ -5,7 +5,7 @@ use Rattle.hx_base.specs.declared.refusal.Refusal.TheVariants as refusal
 use Rattle.hx_outside.specs.Faults.{Rose}
 use Rattle.hx_cli.specs.FirstRefusal.{IsExact, MayBeInstead, MayStandInPlace, Shows}
 use Rattle.hx_cli.specs.Runs.{Gains, IsCaused, IsCommandCause, IsOwnCause, NoneRose, Prints}
-use Rattle.hx_cli.specs.Words.{Around, Command, HasNoMeaning, Histogram, Plan}
+use Rattle.hx_words.specs.Words.{Around, Command, HasNoMeaning, Histogram, Plan}
 
 -- no command refuses its own words
 pub not_usage : (command : Command) → IsOwnCause command refusal.Usage → ⊥

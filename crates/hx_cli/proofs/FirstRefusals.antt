@@ -13,7 +13,7 @@ use Rattle.hx_cli.specs.Plans.{IsCutRefusal}
 use Rattle.hx_rows.specs.Reading.{rows_of}
 use Rattle.hx_cli.specs.FirstRefusal.{AreRows, IsFirstRefusal, IsLaterRefusal, IsPlanRefusal, MayStandInPlace, OrElse, Shows, bad_input, fault_of, too_long, too_many_inputs}
 use Rattle.hx_cli.specs.Limits.{above, most_bytes}
-use Rattle.hx_cli.specs.Words.{Around, Command, Histogram, Plan}
+use Rattle.hx_words.specs.Words.{Around, Command, Histogram, Plan}
 
 -- the next input's length, and its fault
 pub long_next : (bytes : List (List ℕ)) (i : ℕ) → i < length bytes → too_long (drop i bytes) ≡ option_or (above 2 most_bytes (length (get_or bytes i []))) (too_long (drop (i + 1) bytes))

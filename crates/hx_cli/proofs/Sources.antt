@@ -1,9 +1,9 @@
 -- Sources by their names and by the bytes that they tell.
-use Rattle.std.proofs.Common.{◌≡◌, ◌+◌, ◌<◌, ◌++◌, ◌∷◌, ◌∙◌, String, Global, string_bytes, take, ℕ, zero, suc, List, [], All, Option, Some, get_or, length, map, set, sym, ap, arith, refl, subst, inl, inr}
+use Rattle.std.proofs.Common.{◌≡◌, ◌<◌, ◌∷◌, ◌∙◌, ℕ, zero, suc, List, [], All, Option, Some, get_or, length, map, set, sym, ap, arith, refl, subst, inl, inr}
 use Rattle.std.proofs.Math.ListN.{get_or-map}
 use Rattle.std.proofs.Math.Nat.{le_trans}
 use Rattle.std.proofs.lemmas.Bool.{cases_eq}
-use Rattle.std.proofs.lemmas.List.{get_or-set_other, get_or-set_same, length-map, length-set, map-append, take_more}
+use Rattle.std.proofs.lemmas.List.{get_or-set_other, get_or-set_same, length-map, length-set}
 use Rattle.hx_outside.specs.Sources.{SameSource}
 use Rattle.hx_cli.specs.Runs.{SameSources, Tell}
 
@@ -73,9 +73,3 @@ module _ {S : Type 0} (told : S → Option (List ℕ)) (label : S → List ℕ) 
       | inr off ↦ rw (get_or-set_other now i j y d off) (same.each j d within)
     ];
   }
-
--- what is made for each name in turn has the names
-pub named_next : {S : Type 0} (label : S → List ℕ) (made more : List S) (names : List (String Global)) (i : ℕ) (x : S) (name : String Global) → i < length names → name ≡ get_or names i name
-    → more ≡ made ++ x ∷ [] → label x ≡ string_bytes name → map label made ≡ map string_bytes (take i names) → map label more ≡ map string_bytes (take (i + 1) names)
-named_next label made more names i x name below is pushed same so_far =
-    rw (pushed, map-append, same, so_far, take_more names i name below, ← is) (sym (map-append string_bytes (take i names) (name ∷ [])))

@@ -8,7 +8,7 @@ use Rattle.hx_base.specs.Pixels.{count_in}
 use Rattle.hx_rows.specs.Reading.{rows_of}
 use Rattle.hx_cli.specs.Limits.{above, most_bytes, most_inputs}
 use Rattle.hx_cli.specs.Plans.{IsCutRefusal}
-use Rattle.hx_cli.specs.Words.{Around, Command, Histogram, Plan}
+use Rattle.hx_words.specs.Words.{Around, Command, Histogram, Plan}
 
 -- the first refusal is that one, or where there is none the first of the others
 abbrev pub OrElse : Option Refusal → (Option Refusal → Type 0) → Option Refusal → Type 0

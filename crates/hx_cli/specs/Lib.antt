@@ -1,9 +1,6 @@
 pub mod Histograms
-pub mod Words
-pub mod Options
 pub mod Runs
 pub mod FirstRefusal
-pub mod Requests
 pub mod Inputs
 pub mod Texts
 pub mod Limits

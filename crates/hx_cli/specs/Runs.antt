@@ -12,7 +12,7 @@ use Rattle.hx_cli.specs.Limits.{most_bytes, most_inputs}
 use Rattle.hx_cli.specs.Neighbours.{IsAroundText}
 use Rattle.hx_cli.specs.Plans.{IsCutCause, IsPlanText}
 use Rattle.hx_cli.specs.Histograms.{histogram_text}
-use Rattle.hx_cli.specs.Words.{Around, Command, Histogram, Means, HasNoMeaning, Plan}
+use Rattle.hx_words.specs.Words.{Around, Command, Histogram, Means, HasNoMeaning, Plan}
 
 -- the same sources in the same order: each tells the same bytes under the same name, and no count fell
 pub record SameSources {S : Type 0} (told : S → Option (List ℕ)) (label : S → List ℕ) (faults : S → ℕ) (before now : List S) : Type 0 where

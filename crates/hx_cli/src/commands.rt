@@ -7,18 +7,18 @@ ghost use Rattle.hx_cli.specs.FirstRefusal.{IsLaterRefusal, Shows, bad_input};
 ghost use Rattle.hx_cli.specs.Limits.{most_inputs};
 ghost use Rattle.hx_cli.specs.Neighbours.{IsAroundText};
 ghost use Rattle.hx_cli.specs.Plans.{IsCutCause, IsCutRefusal, partition_line};
-ghost use Rattle.hx_cli.specs.Requests.{IsAroundRequest, IsHistogramRequest, IsPlanRequest, IsSound, command_of};
+ghost use Rattle.hx_words.specs.Requests.{IsAroundRequest, IsHistogramRequest, IsPlanRequest, IsSound, command_of};
 ghost use Rattle.hx_cli.specs.Runs.{IsInputsCause, IsOwnCause, IsTextOf, SameSources, Tell};
-ghost use Rattle.hx_cli.specs.Words.{Histogram, Plan};
+ghost use Rattle.hx_words.specs.Words.{Histogram, Plan};
 
 use crate::inputs::count_inputs;
 use crate::lines::lines_of;
 use crate::neighbours::line_around;
 use crate::planning::{lines_of_plan, partitions};
-use crate::words::Action;
 use hx_base::Refusal;
 use hx_hist::Hist;
 use hx_outside::Source;
+use hx_words::Action;
 use std::alloc::Global;
 
 // The text of a histogram of the inputs' rows.

@@ -5,15 +5,15 @@ ghost use Rattle.hx_base.specs.declared.refusal.Refusal.TheVariants.{Memory, Sin
 ghost use Rattle.hx_outside.specs.Faults.{Rose};
 ghost use Rattle.hx_cli.specs.FirstRefusal.{IsExact, IsFirstRefusal, Shows};
 ghost use Rattle.hx_cli.specs.Limits.{most_inputs};
-ghost use Rattle.hx_cli.specs.Requests.{IsSound, command_of};
+ghost use Rattle.hx_words.specs.Requests.{IsSound, command_of};
 ghost use Rattle.hx_cli.specs.Runs.{Gains, IsCaused, IsCommandCause, IsInputsCause, IsOutput, IsOwnCause, IsTextOf, NoneRose, Prints, SameSources, Tell};
-ghost use Rattle.hx_cli.specs.Words.{AreInputNames, Command, HasNoMeaning, Means};
+ghost use Rattle.hx_words.specs.Words.{AreInputNames, Command, HasNoMeaning, Means};
 
 use crate::commands::act;
 use crate::inputs::check_inputs;
-use crate::words::{Action, request_of};
 use hx_base::Refusal;
 use hx_outside::{Sink, Source, Store};
+use hx_words::{Action, request_of};
 use std::alloc::Global;
 
 /// How a run ended, with what was handed in.

@@ -5,6 +5,7 @@ mod parquet;
 mod plan;
 mod several;
 mod slow;
+mod written;
 
 ghost use Rattle.std.specs.Prelude.{◌≡◌, ◌<◌, IfOk, map, string_bytes};
 ghost use Rattle.hx_mem.specs.Sources.{Memory};
@@ -195,30 +196,10 @@ fn bad_inputs(rt: HostRuntime) -> Result<(), Fail> {
 fn lines_without_a_meaning(rt: HostRuntime) -> Result<(), Fail> {
     let lines = [
         "",
-        "histogram",
         "histogram 0",
-        "histogram 30 a.csv",
-        "histogram 00 a.csv",
-        "histogram 01 a.csv",
-        "histogram +1 a.csv",
-        "histogram -1 a.csv",
-        "histogram 0 a.csv b.txt",
-        "histogram 0 a.csv -b.csv",
-        "histogram a.csv",
-        "histogram 0 a.txt",
-        "histogram 0 a.parquets",
-        "histogram 0 -a.csv",
-        "histogram --x 0 a.csv",
-        "-h",
-        "around 0",
+        "plan --highest 21 a.csv",
         "around 0 12",
-        "around 30 0",
-        "around 1 48",
-        "around 29 3458764513820540928",
-        "around 0 0 0",
-        "around 00 0",
-        "around 0 -1",
-        "around 0 a.csv",
+        "import t a.csv",
     ];
     for line in lines {
         let shown = run(rt.alloc(), line, b"")?;

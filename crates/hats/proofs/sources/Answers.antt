@@ -1,5 +1,5 @@
 use Rattle.std.proofs.Common.{◌∙◌}
-use Rattle.hx_cli.proofs.Sources.{named_next}
+use Rattle.hx_words.proofs.Named.{named_next}
 use Rattle.hats.specs.Files.{path_of}
 use Rattle.hats.proofs.sources.Goals as goal
 

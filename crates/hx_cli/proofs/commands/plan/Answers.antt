@@ -8,7 +8,7 @@ use Rattle.hx_cli.proofs.Planned.{cut_of_rows, plan_of_rows, shows_weaker}
 use Rattle.hx_cli.specs.FirstRefusal.{IsPlanRefusal, bad_input}
 use Rattle.hx_cli.specs.Plans.{IsCutRefusal, partition_line}
 use Rattle.hx_cli.specs.Runs.{IsTextOf}
-use Rattle.hx_cli.specs.Words.{Plan}
+use Rattle.hx_words.specs.Words.{Plan}
 use Rattle.hx_cli.proofs.commands.plan.Goals as goal
 
 pub returns-clause-text : goal.returns-clause-text

@@ -2,7 +2,7 @@ use Rattle.std.proofs.Common.{◌≡◌, ◌∙◌, ℕ, slice_index}
 use Rattle.std.proofs.lemmas.Result.{IfOk-weaker}
 use Rattle.hx_cli.proofs.Tables.{counted_past}
 use Rattle.hx_cli.specs.Histograms.{count_in}
-use Rattle.hx_hist.specs.Histograms.{Histogram, count_at}
+use Rattle.hx_hist.specs.Histograms.{count_at}
 use Rattle.hx_cli.proofs.counting.count_by_table.Goals as goal
 
 pub returns-clause-counts : goal.returns-clause-counts

@@ -1,6 +1,6 @@
 use Rattle.std.proofs.Common.{arith}
 use Rattle.hx_base.proofs.Powers.{shift_fits}
-use Rattle.hx_cli.proofs.Requests.{within_words}
+use Rattle.hx_words.proofs.Requests.{within_words}
 use Rattle.hx_cli.proofs.counting.pixels_of.Goals as goal
 
 pub returns : goal.returns

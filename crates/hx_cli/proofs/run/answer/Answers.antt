@@ -4,7 +4,7 @@ use Rattle.std.proofs.lemmas.List.{length-map}
 use Rattle.hx_cli.proofs.FirstRefusals.{later_first}
 use Rattle.hx_cli.proofs.Sources.{same_names, tell_still}
 use Rattle.hx_cli.specs.FirstRefusal.{IsLaterRefusal, Shows, too_long, too_many_inputs}
-use Rattle.hx_cli.specs.Requests.{command_of}
+use Rattle.hx_words.specs.Requests.{command_of}
 use Rattle.hx_cli.specs.Runs.{IsTextOf}
 use Rattle.hx_cli.proofs.run.answer.Goals as goal
 

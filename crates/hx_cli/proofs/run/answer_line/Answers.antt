@@ -3,11 +3,11 @@ use Rattle.std.proofs.lemmas.Result.{IfErr-at_err, IfErr-weaker, IfOk-weaker}
 use Rattle.hx_base.specs.declared.refusal.Refusal.TheVariants.{Usage}
 use Rattle.hx_base.specs.declared.refusal.Refusal.{Refusal}
 use Rattle.hx_cli.proofs.Answered.{not_usage}
-use Rattle.hx_cli.proofs.Requests.{one_meaning, over_inputs}
+use Rattle.hx_words.proofs.Requests.{one_meaning, over_inputs}
 use Rattle.hx_cli.specs.FirstRefusal.{IsFirstRefusal, Shows}
-use Rattle.hx_cli.specs.Requests.{command_of}
+use Rattle.hx_words.specs.Requests.{command_of}
 use Rattle.hx_cli.specs.Runs.{IsCommandCause, IsInputsCause, IsOutput, IsOwnCause, IsTextOf}
-use Rattle.hx_cli.specs.Words.{Command, HasNoMeaning}
+use Rattle.hx_words.specs.Words.{Command, HasNoMeaning}
 use Rattle.hx_cli.proofs.run.answer_line.Goals as goal
 
 pub answer-requires : goal.answer-requires

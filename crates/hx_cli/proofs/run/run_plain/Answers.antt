@@ -3,7 +3,7 @@ use Rattle.hx_cli.proofs.Answered.{caused, exactly, gained, memory_alone}
 use Rattle.hx_cli.proofs.FirstRefusals.{one_first}
 use Rattle.hx_cli.specs.FirstRefusal.{IsFirstRefusal}
 use Rattle.hx_cli.specs.Runs.{IsOutput, Tell}
-use Rattle.hx_cli.specs.Words.{Command}
+use Rattle.hx_words.specs.Words.{Command}
 use Rattle.hx_cli.proofs.run.run_plain.Goals as goal
 
 pub returns-clause-cause : goal.returns-clause-cause

@@ -1,6 +1,6 @@
 use Rattle.std.proofs.Common.{◌∙◌}
 use Rattle.hx_mem.specs.Sources.{Memory}
-use Rattle.hx_cli.proofs.Sources.{named_next}
+use Rattle.hx_words.proofs.Named.{named_next}
 use Rattle.hx_cli.specs.declared.tests.slow.Slow.{Slow}
 use Rattle.hx_cli.proofs.tests.sources.Goals as goal
 

@@ -1,0 +1,5 @@
+pub mod Numbers
+pub mod OptionWords
+pub mod FileWords
+pub mod Requests
+pub mod Named

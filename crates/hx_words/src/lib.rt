@@ -1,0 +1,15 @@
+//! What the words of a command line mean.
+//!
+//! The form of each command, its options and its ranges stand in `specs/Words` and `specs/Options`.
+#![tactic(auto)]
+
+mod names;
+mod number;
+mod options;
+mod request;
+
+pub use names::input_names;
+pub use request::{Action, Request, request_of};
+
+#[cfg(test)]
+mod tests;

@@ -1,0 +1,38 @@
+//! Numbers of the command line.
+ghost use Rattle.std.specs.Prelude.{◌≡◌, ◌≢◌, ◌≤◌, ◌<◌, ◌^◌, ℕ, MatchOption, IsTrue, ◌↔◌};
+ghost use Rattle.std.specs.Fmt.{decimal};
+ghost use Rattle.hx_words.specs.Words.{BeginsNumber};
+
+const HIGHEST_ORDER: u64 = 29;
+
+// Whether a text may be a number by its first byte: `0` stands alone, and there is no sign.
+fn begins_a_number(digits: &[u8]) -> bool
+    ensures { IsTrue result ↔ BeginsNumber digits.now }
+{
+    match digits {
+        [] => false,
+        [b'0', rest @ ..] => rest.is_empty(),
+        [first, ..] => *first != b'+',
+    }
+}
+
+/// A number of the command line: decimal digits without a sign or a leading zero.
+pub fn number(word: &str) -> Option<u64>
+    ensures { MatchOption result ((n : ℕ) → n < 2 ^ 64 → word.now ≢ decimal n) (λ n. (n < 2 ^ 64) × (word.now ≡ decimal n)) }
+{
+    if !begins_a_number(word.as_bytes()) {
+        return None;
+    }
+    word.parse::<u64>().ok()
+}
+
+/// An order of pixels.
+pub fn order(word: &str) -> Option<u8>
+    ensures { MatchOption result ((k : ℕ) → k ≤ 29 → word.now ≢ decimal k) (λ k. (k ≤ 29) × (word.now ≡ decimal k)) }
+{
+    let order = number(word)?;
+    if order > HIGHEST_ORDER {
+        return None;
+    }
+    Some(order as u8)
+}
