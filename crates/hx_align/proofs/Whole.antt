@@ -1,6 +1,7 @@
 -- The plan of a whole histogram.
 use Rattle.std.proofs.Common.{◌≤◌, [], ℕ, List, length, sym, arith, get_or, subst}
 use Rattle.std.proofs.lemmas.List.{get_or-map, length-map}
+use Rattle.hx_base.specs.Limits.{most_partitions}
 use Rattle.hx_base.specs.declared.pixel.Pixel.{Pixel}
 use Rattle.hx_base.proofs.Partitions.{IsMonotone, partitions_disjoint}
 use Rattle.hx_align.specs.declared.plan.PlanRow.{PlanRow}
@@ -12,7 +13,7 @@ all_planned count lowest highest threshold rows h = subst (IsPlanOf count lowest
 pub has_partitions : (count : Pixel → ℕ) (lowest highest threshold : ℕ) (rows : List PlanRow) → IsPlanOf count lowest highest threshold rows → HasPartitions count lowest highest threshold (length rows)
 has_partitions count lowest highest threshold rows h = record { pixels = pixels_of rows; partitions = h.partitions; number = length-map rows (λ (row : PlanRow). row.pixel) }
 
-pub is_plan : (count : Pixel → ℕ) (lowest highest threshold : ℕ) (rows : List PlanRow) → IsMonotone highest count → length rows ≤ 100000 → IsPlanOf count lowest highest threshold rows → IsPlan rows
+pub is_plan : (count : Pixel → ℕ) (lowest highest threshold : ℕ) (rows : List PlanRow) → IsMonotone highest count → length rows ≤ most_partitions → IsPlanOf count lowest highest threshold rows → IsPlan rows
 is_plan count lowest highest threshold rows grows most h = record {
   most = most;
   disjoint = partitions_disjoint count lowest highest threshold grows (pixels_of rows) h.partitions;

@@ -1,6 +1,7 @@
 -- Plans: the partitions of counted rows, and what an alignment answers.
 use Rattle.std.specs.Prelude.{◌≡◌, ◌<◌, ◌≤◌, ◌++◌, ⊤, ℕ, List, All, Result, Ok, Err, length, map}
 use Rattle.hx_base.specs.declared.pixel.Pixel.{Pixel}
+use Rattle.hx_base.specs.Limits.{most_partitions}
 use Rattle.hx_base.specs.Partitions.{ArePartitions, IsFirstOverfull, NothingOverfull}
 use Rattle.hx_base.specs.Pixels.{AreDisjointInOrder}
 use Rattle.hx_hist.specs.Histograms.{Histogram, total_in}
@@ -34,15 +35,15 @@ pub record HasPartitions (count : Pixel → ℕ) (lowest highest threshold found
 
 -- what a plan keeps, whatever it was made of
 pub record IsPlan (rows : List PlanRow) : Type 0 where
-  pub most : length rows ≤ 100000
+  pub most : length rows ≤ most_partitions
   pub disjoint : AreDisjointInOrder (pixels_of rows)
   pub some : All (λ row. 1 ≤ row.count) rows
 
--- The plan is all partitions with their counts, where no pixel is overfull and there are at most 100000 partitions.
+-- The plan is all partitions with their counts, where no pixel is overfull and there are at most so many partitions as a catalogue may have.
 -- Else the first overfull pixel is named with its count; or, where none is, how many partitions there are.
 -- Only want of memory is free to come in place of each of these.
 abbrev pub IsAligned : (Pixel → ℕ) → ℕ → ℕ → ℕ → Result (List PlanRow) AlignRefusal → Type 0
-IsAligned count lowest highest threshold (Ok rows) = NothingOverfull count highest threshold × IsPlanOf count lowest highest threshold rows × (length rows ≤ 100000)
+IsAligned count lowest highest threshold (Ok rows) = NothingOverfull count highest threshold × IsPlanOf count lowest highest threshold rows × (length rows ≤ most_partitions)
 IsAligned count lowest highest threshold (Err (refusal.Overfull pixel found)) = IsFirstOverfull count highest threshold pixel × (found ≡ count (record { order = highest; number = pixel }))
-IsAligned count lowest highest threshold (Err (refusal.TooMany found)) = NothingOverfull count highest threshold × HasPartitions count lowest highest threshold found × (100000 < found)
+IsAligned count lowest highest threshold (Err (refusal.TooMany found)) = NothingOverfull count highest threshold × HasPartitions count lowest highest threshold found × (most_partitions < found)
 IsAligned count lowest highest threshold (Err refusal.Memory) = ⊤

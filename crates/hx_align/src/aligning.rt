@@ -5,10 +5,9 @@ ghost use Rattle.hx_align.specs.Plans.{IsAligned, IsPlanOf, totals_of};
 
 use crate::descent::append_partitions;
 use crate::plan::{AlignRefusal, Plan, PlanRow};
+use hx_base::MOST_PARTITIONS;
 use hx_hist::{Hist, Pair};
 use std::alloc::{AllocError, Global};
-
-const MOST_PARTITIONS: usize = 100_000;
 
 // The first pair that counts more rows than the threshold.
 fn first_above(pairs: &[Pair], threshold: u64) -> Option<Pair>

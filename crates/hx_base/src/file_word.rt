@@ -44,7 +44,8 @@ pub fn is_csv_name(name: &str) -> bool
     ends_in(name, b".csv")
 }
 
-fn is_parquet_name(name: &str) -> bool
+/// Whether a name ends in `.parquet`.
+pub fn is_parquet_name(name: &str) -> bool
     ensures { IsTrue result ↔ IsParquetName name.now }
 {
     ends_in(name, b".parquet")

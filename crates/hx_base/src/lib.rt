@@ -10,10 +10,10 @@ mod refusal;
 mod row;
 mod settings;
 
-pub use file_word::{FileWord, is_csv_name, is_file_word};
+pub use file_word::{FileWord, is_csv_name, is_file_word, is_parquet_name};
 pub use laws::{order_of_rows, partitions_of_rows, rows_in_a_pixel};
 pub use name::Name;
 pub use pixel::Pixel;
 pub use refusal::{JobFile, Refusal};
 pub use row::Row;
-pub use settings::Settings;
+pub use settings::{MOST_PARTITIONS, Settings};

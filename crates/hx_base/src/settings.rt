@@ -18,6 +18,9 @@ pub struct Settings {
     pub margin_order: u8,
 }
 
+/// A catalogue has at most so many partitions.
+pub const MOST_PARTITIONS: usize = 100_000;
+
 const HIGHEST_ORDER: u8 = 20;
 
 const HIGHEST_MARGIN_ORDER: u8 = 24;

@@ -2,13 +2,14 @@
 use Rattle.std.specs.Prelude.{◌≡◌, ◌<◌, ◌++◌, ◌∷◌, ◌⊎◌, ℕ, List, [], length, Option, Some}
 use Rattle.std.specs.Fmt.{decimal}
 use Rattle.std.specs.List.{flat_map}
+use Rattle.hx_base.specs.Limits.{most_partitions}
 use Rattle.hx_base.specs.Partitions.{ArePartitions, IsFirstOverfull, NothingOverfull}
 use Rattle.hx_base.specs.Pixels.{count_in}
 use Rattle.hx_base.specs.declared.pixel.Pixel.{Pixel}
 use Rattle.hx_base.specs.declared.refusal.Refusal.{Refusal}
 use Rattle.hx_base.specs.declared.refusal.Refusal.TheVariants as refusal
 use Rattle.hx_base.specs.declared.row.Row.{Row}
-use Rattle.hx_cli.specs.Limits.{above, most_partitions}
+use Rattle.hx_cli.specs.Limits.{above}
 
 -- a line: the pixel's order, its number, its count
 abbrev pub partition_line : Pixel → ℕ → List ℕ

@@ -7,12 +7,10 @@ ghost use Rattle.hx_cli.specs.FirstRefusal.{Shows};
 ghost use Rattle.hx_cli.specs.Plans.{IsCutCause, IsCutRefusal, partition_line};
 
 use hx_align::{AlignRefusal, Plan, PlanRow, align};
-use hx_base::Refusal;
+use hx_base::{MOST_PARTITIONS, Refusal};
 use hx_hist::Hist;
 use itoa::Buffer;
 use std::alloc::{AllocError, Global};
-
-const MOST_PARTITIONS: u64 = 100_000;
 
 // The bytes of a line whose numbers have a usual length.
 const USUAL_LINE: usize = 16;
@@ -37,7 +35,7 @@ pub fn partitions(
         Err(AlignRefusal::TooMany { found }) => Err(Refusal::TooMany {
             what: 3,
             found,
-            limit: MOST_PARTITIONS,
+            limit: MOST_PARTITIONS as u64,
         }),
         Err(AlignRefusal::Memory) => Err(Refusal::Memory),
     }

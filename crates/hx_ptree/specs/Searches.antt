@@ -1,11 +1,12 @@
 -- Searches through a list of partitions: the one that holds a position, and those that overlap a pixel.
 use Rattle.std.specs.Prelude.{◌≡◌, ◌+◌, ◌<◌, ◌≤◌, ◌⊎◌, ◌↔◌, ℕ, List, Option, Some, None, All, length, slice_get}
 use Rattle.hx_base.specs.declared.pixel.Pixel.{Pixel}
+use Rattle.hx_base.specs.Limits.{most_partitions}
 use Rattle.hx_base.specs.Pixels.{AreDisjointInOrder, HoldsPlace, LiesIn, end_place, first_place}
 
 -- what the partitions of a catalogue keep
 pub record IsPartitionList (pixels : List Pixel) : Type 0 where
-  pub most : length pixels ≤ 100000
+  pub most : length pixels ≤ most_partitions
   pub disjoint : AreDisjointInOrder pixels
 
 -- the index of the partition that holds a position, or none where none holds it

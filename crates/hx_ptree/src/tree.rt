@@ -1,5 +1,6 @@
 //! The list of partitions that is searched.
 ghost use Rattle.std.specs.Prelude.{◌≡◌, ◌*◌, ◌^◌, ◌<◌, ◌≤◌, IfOk, length};
+ghost use Rattle.hx_base.specs.Limits.{most_partitions};
 ghost use Rattle.hx_base.specs.Pixels.{AreDisjointInOrder, IsPixel};
 ghost use Rattle.hx_ptree.specs.Searches.{IsHolder, IsPartitionList, IsSpan};
 
@@ -39,7 +40,7 @@ impl Model for PixelTree {
 impl PixelTree {
     /// The partitions of a list.
     pub fn build(alloc: Global, parts: &[Pixel]) -> Result<PixelTree, AllocError>
-        requires most { length parts.now ≤ 100000 }
+        requires most { length parts.now ≤ most_partitions }
         requires disjoint { AreDisjointInOrder parts.now }
         ensures { IfOk result (λ tree. tree ≡ parts.now) }
     {

@@ -5,7 +5,7 @@ ghost use Rattle.hx_rows.specs.Reading.{Reads, rows_of};
 
 use crate::parquet::parquet_rows;
 use crate::table::csv_rows;
-use hx_base::Row;
+use hx_base::{Row, is_parquet_name};
 use std::alloc::Global;
 
 /// Why an input could not be read as rows.
@@ -14,13 +14,6 @@ pub enum RowRefusal {
     Memory,
     /// The first fault: its row (from 1; 0 is the file as a whole) and its number.
     Bad { row: u64, why: u8 },
-}
-
-// Whether a name ends in `.parquet`.
-fn is_parquet_name(name: &str) -> bool
-    ensures { IsTrue result ↔ IsParquetName name.now }
-{
-    name.as_bytes().ends_with(b".parquet")
 }
 
 /// The rows of an input, in its order, or its first fault. The end of its name tells its format: `.csv`, `.parquet`.
