@@ -2,8 +2,6 @@
 use super::making::{CHUNK, Chunk, Group, Leaf, Page, file};
 use super::{Expected, check};
 use hx_pqmeta::PqRefusal;
-use std::alloc::Global;
-use std::process::Abort;
 use std::test::Fail;
 
 const A: Leaf = Leaf("a", Some(2), 0);
@@ -48,493 +46,228 @@ const PAGE_IN_A_PAGE: Page = Page {
     sizes: None,
 };
 
+// A page of a negative number of values.
+const BAD: Page = Page {
+    values: -1,
+    body: b"",
+    sizes: None,
+};
+
 const ONE: Chunk<'static> = Chunk {
     pages: &[SEVEN],
     ..CHUNK
 };
 
-// Row groups of the leaf `a`.
-const GROUPS: [(&[Group], Expected); 41] = [
-    // No groups, groups of no rows, several groups and pages, pages of no values.
-    (&[], Ok(&[&[]])),
-    (
-        &[Group(
-            0,
-            &[Chunk {
-                place: Some(0),
-                ..CHUNK
-            }],
-        )],
-        Ok(&[&[]]),
-    ),
-    (&[Group(1, &[ONE])], Ok(&[&[7]])),
-    (
-        &[
-            Group(1, &[ONE]),
-            Group(
-                0,
-                &[Chunk {
-                    place: Some(-1),
-                    ..CHUNK
-                }],
-            ),
-            Group(
-                2,
-                &[Chunk {
-                    pages: &[FIVE_AND_SIX],
-                    ..CHUNK
-                }],
-            ),
-        ],
-        Ok(&[&[7, 5, 6]]),
-    ),
-    (
-        &[
-            Group(
-                4,
-                &[Chunk {
-                    pages: &[NINE, FIVE_AND_SIX, SEVEN],
-                    ..CHUNK
-                }],
-            ),
-            Group(
-                1,
-                &[Chunk {
-                    pages: &[NINE],
-                    ..CHUNK
-                }],
-            ),
-        ],
-        Ok(&[&[9, 5, 6, 7, 9]]),
-    ),
-    (
-        &[Group(
-            2,
-            &[Chunk {
-                pages: &[NONE, NINE, NONE, NONE, SEVEN],
-                ..CHUNK
-            }],
-        )],
-        Ok(&[&[9, 7]]),
-    ),
+// The pages of `a` in a row group of so many rows.
+const PAGES: [(i64, &[Page], Expected); 10] = [
+    (1, &[SEVEN], Ok(&[&[7]])),
+    (4, &[NINE, FIVE_AND_SIX, SEVEN], Ok(&[&[9, 5, 6, 7]])),
+    // Pages of no values.
+    (2, &[NONE, NINE, NONE, NONE, SEVEN], Ok(&[&[9, 7]])),
     // What stands behind the last value isn't read.
-    (
-        &[Group(
-            1,
-            &[Chunk {
-                pages: &[
-                    NINE,
-                    Page {
-                        sizes: Some((-1, 0)),
-                        ..SEVEN
-                    },
-                ],
-                ..CHUNK
-            }],
-        )],
-        Ok(&[&[9]]),
-    ),
-    (
-        &[Group(
-            0,
-            &[Chunk {
-                pages: &[Page {
-                    sizes: Some((-1, 0)),
-                    ..SEVEN
-                }],
-                ..CHUNK
-            }],
-        )],
-        Ok(&[&[]]),
-    ),
-    // Chunks that share a page, one whose page lies in another's, one that begins at another's second page.
-    (
-        &[
-            Group(1, &[ONE]),
-            Group(
-                1,
-                &[Chunk {
-                    place: Some(4),
-                    ..CHUNK
-                }],
-            ),
-        ],
-        Ok(&[&[7, 7]]),
-    ),
-    (
-        &[
-            Group(
-                4,
-                &[Chunk {
-                    pages: &[PAGE_IN_A_PAGE],
-                    ..CHUNK
-                }],
-            ),
-            Group(
-                1,
-                &[Chunk {
-                    place: Some(21),
-                    ..CHUNK
-                }],
-            ),
-        ],
-        Ok(&[&[0x152c_1015_1015_0015, 0x0006_1506_1500_1502, 0x700, 0, 7]]),
-    ),
-    (
-        &[
-            Group(
-                2,
-                &[Chunk {
-                    pages: &[SEVEN, NINE],
-                    ..CHUNK
-                }],
-            ),
-            Group(
-                1,
-                &[Chunk {
-                    place: Some(29),
-                    ..CHUNK
-                }],
-            ),
-        ],
-        Ok(&[&[7, 9, 9]]),
-    ),
-    // Places in front of the pages, at the footer, behind it.
-    (
-        &[Group(
-            1,
-            &[Chunk {
-                place: Some(3),
-                ..ONE
-            }],
-        )],
-        BOUNDS,
-    ),
-    (
-        &[Group(
-            1,
-            &[Chunk {
-                place: Some(0),
-                ..ONE
-            }],
-        )],
-        BOUNDS,
-    ),
-    (
-        &[Group(
-            1,
-            &[Chunk {
-                place: Some(-1),
-                ..ONE
-            }],
-        )],
-        BOUNDS,
-    ),
-    (
-        &[Group(
-            1,
-            &[Chunk {
-                place: Some(29),
-                ..ONE
-            }],
-        )],
-        BOUNDS,
-    ),
-    (
-        &[Group(
-            1,
-            &[Chunk {
-                place: Some(1000),
-                ..ONE
-            }],
-        )],
-        BOUNDS,
-    ),
-    (
-        &[Group(
-            1,
-            &[Chunk {
-                place: Some(i64::MAX),
-                ..ONE
-            }],
-        )],
-        BOUNDS,
-    ),
-    // No more pages, but a value to come.
-    (&[Group(2, &[ONE])], BOUNDS),
-    (
-        &[Group(
-            1,
-            &[Chunk {
-                pages: &[NONE],
-                ..CHUNK
-            }],
-        )],
-        BOUNDS,
-    ),
-    // A header that the footer cuts short, and one without fields.
-    (
-        &[Group(
-            1,
-            &[Chunk {
-                pages: &[Page {
-                    values: 1,
-                    body: b"\0\0\0\0\0\0\0\x15",
-                    sizes: None,
-                }],
-                place: Some(28),
-                ..CHUNK
-            }],
-        )],
+    (1, &[NINE, BAD], Ok(&[&[9]])),
+    (0, &[BAD], Ok(&[&[]])),
+    // A value is to come, and the footer stands there.
+    (2, &[SEVEN], BOUNDS),
+    (1, &[NONE], BOUNDS),
+    // More values than those that are to come, and fewer than none.
+    (1, &[FIVE_AND_SIX], BOUNDS),
+    (2, &[SEVEN, FIVE_AND_SIX], BOUNDS),
+    (1, &[BAD], BOUNDS),
+];
+
+#[test]
+fn pages(rt: HostRuntime) -> Result<(), Fail> {
+    for (rows, pages, expected) in PAGES {
+        let chunk = Chunk { pages, ..CHUNK };
+        let file = file(rt.alloc(), &[A], &[Group(rows, &[chunk])])?;
+        check(&rt, rt.alloc(), &file, &["a"], expected)?;
+    }
+    Ok(())
+}
+
+// The sizes of a page of eight bytes before and after compression.
+const SIZES: [(i64, i64, Expected); 6] = [
+    (8, 8, Ok(&[&[7]])),
+    (9, 8, BOUNDS),
+    (8, 9, BOUNDS),
+    (-8, -8, BOUNDS),
+    (4, 4, BOUNDS),
+    // Past the footer's start.
+    (9, 9, BOUNDS),
+];
+
+#[test]
+fn sizes(rt: HostRuntime) -> Result<(), Fail> {
+    for (plain_size, stored_size, expected) in SIZES {
+        let page = Page {
+            sizes: Some((plain_size, stored_size)),
+            ..SEVEN
+        };
+        let chunk = Chunk {
+            pages: &[page],
+            ..CHUNK
+        };
+        let file = file(rt.alloc(), &[A], &[Group(1, &[chunk])])?;
+        check(&rt, rt.alloc(), &file, &["a"], expected)?;
+    }
+    Ok(())
+}
+
+// The place of the first page, where one page stands at 4 and the footer at 29. The last byte of the page is that of
+// a header without fields.
+const PLACES: [(i64, Expected); 10] = [
+    (4, Ok(&[&[7]])),
+    (3, BOUNDS),
+    (0, BOUNDS),
+    (-1, BOUNDS),
+    (i64::MIN, BOUNDS),
+    (28, Err(PqRefusal::Missing { field: 601 })),
+    (29, BOUNDS),
+    (30, BOUNDS),
+    (1000, BOUNDS),
+    (i64::MAX, BOUNDS),
+];
+
+#[test]
+fn places(rt: HostRuntime) -> Result<(), Fail> {
+    for (place, expected) in PLACES {
+        let chunk = Chunk {
+            place: Some(place),
+            ..ONE
+        };
+        let file = file(rt.alloc(), &[A], &[Group(1, &[chunk])])?;
+        check(&rt, rt.alloc(), &file, &["a"], expected)?;
+    }
+    Ok(())
+}
+
+// A page whose last byte is that of a field's header, and what is read there.
+#[test]
+fn header_cut_short(rt: HostRuntime) -> Result<(), Fail> {
+    let page = Page {
+        values: 1,
+        body: b"\0\0\0\0\0\0\0\x15",
+        sizes: None,
+    };
+    let chunk = Chunk {
+        pages: &[page],
+        place: Some(28),
+        ..CHUNK
+    };
+    let file = file(rt.alloc(), &[A], &[Group(1, &[chunk])])?;
+    check(
+        &rt,
+        rt.alloc(),
+        &file,
+        &["a"],
         Err(PqRefusal::Thrift { at: 29 }),
-    ),
+    )
+}
+
+// A chunk's codec, the place of its dictionary, its number of values, whether it is in another file.
+const FIELDS: [(i64, Option<i64>, Option<i64>, bool, Expected); 11] = [
+    (0, None, None, false, Ok(&[&[7]])),
+    (0, Some(0), Some(1), false, Ok(&[&[7]])),
+    (0, Some(-4), None, false, Ok(&[&[7]])),
+    (0, None, None, true, BOUNDS),
+    (1, None, None, false, Err(PqRefusal::Codec { column: 0 })),
     (
-        &[Group(
-            1,
-            &[Chunk {
-                place: Some(28),
-                ..ONE
-            }],
-        )],
-        Err(PqRefusal::Missing { field: 601 }),
-    ),
-    // Sizes that differ, are negative, or pass the footer.
-    (
-        &[Group(
-            1,
-            &[Chunk {
-                pages: &[Page {
-                    sizes: Some((9, 8)),
-                    ..SEVEN
-                }],
-                ..CHUNK
-            }],
-        )],
-        BOUNDS,
-    ),
-    (
-        &[Group(
-            1,
-            &[Chunk {
-                pages: &[Page {
-                    sizes: Some((8, 9)),
-                    ..SEVEN
-                }],
-                ..CHUNK
-            }],
-        )],
-        BOUNDS,
-    ),
-    (
-        &[Group(
-            1,
-            &[Chunk {
-                pages: &[Page {
-                    sizes: Some((-8, -8)),
-                    ..SEVEN
-                }],
-                ..CHUNK
-            }],
-        )],
-        BOUNDS,
-    ),
-    (
-        &[Group(
-            1,
-            &[Chunk {
-                pages: &[Page {
-                    sizes: Some((9, 9)),
-                    ..SEVEN
-                }],
-                ..CHUNK
-            }],
-        )],
-        BOUNDS,
-    ),
-    (
-        &[Group(
-            1,
-            &[Chunk {
-                pages: &[Page {
-                    sizes: Some((4, 4)),
-                    ..SEVEN
-                }],
-                ..CHUNK
-            }],
-        )],
-        BOUNDS,
-    ),
-    // Numbers of values that are negative, or above those that are to come.
-    (
-        &[Group(
-            1,
-            &[Chunk {
-                pages: &[Page {
-                    values: -1,
-                    body: b"",
-                    sizes: None,
-                }],
-                ..CHUNK
-            }],
-        )],
-        BOUNDS,
-    ),
-    (
-        &[Group(
-            1,
-            &[Chunk {
-                pages: &[FIVE_AND_SIX],
-                ..CHUNK
-            }],
-        )],
-        BOUNDS,
-    ),
-    (
-        &[Group(
-            2,
-            &[Chunk {
-                pages: &[SEVEN, FIVE_AND_SIX],
-                ..CHUNK
-            }],
-        )],
-        BOUNDS,
-    ),
-    // A chunk's own fields, in the order of their refusals.
-    (&[Group(1, &[])], BOUNDS),
-    (
-        &[Group(
-            1,
-            &[Chunk {
-                has_path: true,
-                codec: 1,
-                ..ONE
-            }],
-        )],
-        BOUNDS,
-    ),
-    (
-        &[Group(
-            1,
-            &[Chunk {
-                codec: 1,
-                dictionary_place: Some(4),
-                ..ONE
-            }],
-        )],
-        Err(PqRefusal::Codec { column: 0 }),
-    ),
-    (
-        &[Group(
-            1,
-            &[Chunk {
-                dictionary_place: Some(4),
-                values: Some(2),
-                ..ONE
-            }],
-        )],
+        0,
+        Some(4),
+        None,
+        false,
         Err(PqRefusal::Encoding { column: 0 }),
     ),
+    (0, None, Some(2), false, BOUNDS),
+    (0, None, Some(0), false, BOUNDS),
+    (0, None, Some(-1), false, BOUNDS),
+    // The first of several.
+    (1, Some(4), None, true, BOUNDS),
     (
-        &[Group(
-            1,
-            &[Chunk {
-                dictionary_place: Some(0),
-                ..ONE
-            }],
-        )],
-        Ok(&[&[7]]),
+        1,
+        Some(4),
+        Some(2),
+        false,
+        Err(PqRefusal::Codec { column: 0 }),
     ),
+];
+
+#[test]
+fn fields_of_a_chunk(rt: HostRuntime) -> Result<(), Fail> {
+    for (codec, dictionary_place, values, has_path, expected) in FIELDS {
+        let chunk = Chunk {
+            codec,
+            dictionary_place,
+            values,
+            has_path,
+            ..ONE
+        };
+        let file = file(rt.alloc(), &[A], &[Group(1, &[chunk])])?;
+        check(&rt, rt.alloc(), &file, &["a"], expected)?;
+    }
+    Ok(())
+}
+
+// Chunks whose first page is one of another chunk, and two that are refused.
+const AT_4: Chunk<'static> = Chunk {
+    place: Some(4),
+    ..CHUNK
+};
+
+const AT_21: Chunk<'static> = Chunk {
+    place: Some(21),
+    ..CHUNK
+};
+
+const AT_29: Chunk<'static> = Chunk {
+    place: Some(29),
+    ..CHUNK
+};
+
+const TWO: Chunk<'static> = Chunk {
+    pages: &[SEVEN, NINE],
+    ..CHUNK
+};
+
+const LARGE: Chunk<'static> = Chunk {
+    pages: &[PAGE_IN_A_PAGE],
+    ..CHUNK
+};
+
+const BAD_PAGE: Chunk<'static> = Chunk {
+    pages: &[BAD],
+    ..CHUNK
+};
+
+const COMPRESSED: Chunk<'static> = Chunk { codec: 1, ..ONE };
+
+// Row groups of the leaf `a`.
+const GROUPS: [(&[Group], Expected); 10] = [
+    (&[], Ok(&[&[]])),
+    (&[Group(0, &[CHUNK])], Ok(&[&[]])),
     (
-        &[Group(
-            1,
-            &[Chunk {
-                dictionary_place: Some(-4),
-                ..ONE
-            }],
-        )],
-        Ok(&[&[7]]),
+        &[Group(1, &[ONE]), Group(0, &[AT_4]), Group(2, &[TWO])],
+        Ok(&[&[7, 7, 9]]),
     ),
+    // A group without the chunk.
+    (&[Group(1, &[ONE]), Group(1, &[])], BOUNDS),
+    // A page that is read twice, one that is another's second, one that lies in another.
+    (&[Group(1, &[ONE]), Group(1, &[AT_4])], Ok(&[&[7, 7]])),
+    (&[Group(2, &[TWO]), Group(1, &[AT_29])], Ok(&[&[7, 9, 9]])),
     (
-        &[Group(
-            1,
-            &[Chunk {
-                values: Some(2),
-                ..ONE
-            }],
-        )],
-        BOUNDS,
-    ),
-    (
-        &[Group(
-            1,
-            &[Chunk {
-                values: Some(0),
-                ..ONE
-            }],
-        )],
-        BOUNDS,
-    ),
-    (
-        &[Group(
-            1,
-            &[Chunk {
-                values: Some(-1),
-                ..ONE
-            }],
-        )],
-        BOUNDS,
+        &[Group(4, &[LARGE]), Group(1, &[AT_21])],
+        Ok(&[&[0x152c_1015_1015_0015, 0x0006_1506_1500_1502, 0x700, 0, 7]]),
     ),
     // The chunks of all groups come before the first page, and pages in their order.
     (
-        &[
-            Group(
-                1,
-                &[Chunk {
-                    pages: &[Page {
-                        sizes: Some((9, 8)),
-                        ..SEVEN
-                    }],
-                    ..CHUNK
-                }],
-            ),
-            Group(1, &[Chunk { codec: 1, ..ONE }]),
-        ],
+        &[Group(1, &[BAD_PAGE]), Group(1, &[COMPRESSED])],
         Err(PqRefusal::Codec { column: 0 }),
     ),
+    (&[Group(2, &[ONE]), Group(1, &[BAD_PAGE])], BOUNDS),
     (
-        &[
-            Group(
-                1,
-                &[Chunk {
-                    dictionary_place: Some(4),
-                    ..ONE
-                }],
-            ),
-            Group(1, &[Chunk { codec: 1, ..ONE }]),
-        ],
-        Err(PqRefusal::Encoding { column: 0 }),
-    ),
-    (
-        &[
-            Group(
-                1,
-                &[Chunk {
-                    pages: &[Page {
-                        sizes: Some((9, 8)),
-                        ..SEVEN
-                    }],
-                    ..CHUNK
-                }],
-            ),
-            Group(
-                1,
-                &[Chunk {
-                    place: Some(28),
-                    ..ONE
-                }],
-            ),
-        ],
-        BOUNDS,
+        &[Group(1, &[COMPRESSED]), Group(1, &[])],
+        Err(PqRefusal::Codec { column: 0 }),
     ),
 ];
 
@@ -543,6 +276,43 @@ fn groups(rt: HostRuntime) -> Result<(), Fail> {
     for (groups, expected) in GROUPS {
         let file = file(rt.alloc(), &[A], groups)?;
         check(&rt, rt.alloc(), &file, &["a"], expected)?;
+    }
+    Ok(())
+}
+
+// Pages of `c`, whose bodies begin with levels.
+const ONE_LEVEL: Page = Page {
+    values: 1,
+    body: b"\x02\0\0\0\x02\x01\x07\0\0\0\0\0\0\0",
+    sizes: None,
+};
+
+const NO_LEVELS: Page = Page {
+    values: 0,
+    body: b"\0\0\0\0",
+    sizes: None,
+};
+
+const RUBBISH: Page = Page {
+    values: 0,
+    body: b"\x02\0\0\0\x04\x02",
+    sizes: None,
+};
+
+// Pages of the leaf `c`, of which some have no values.
+const OPTIONAL_PAGES: [(&[Page], Expected); 4] = [
+    (&[ONE_LEVEL], Ok(&[&[7]])),
+    (&[NO_LEVELS, NO_LEVELS, ONE_LEVEL], Ok(&[&[7]])),
+    (&[RUBBISH, ONE_LEVEL], Ok(&[&[7]])),
+    (&[NONE, ONE_LEVEL], BOUNDS),
+];
+
+#[test]
+fn optional_pages(rt: HostRuntime) -> Result<(), Fail> {
+    for (pages, expected) in OPTIONAL_PAGES {
+        let chunk = Chunk { pages, ..CHUNK };
+        let file = file(rt.alloc(), &[C], &[Group(1, &[chunk])])?;
+        check(&rt, rt.alloc(), &file, &["c"], expected)?;
     }
     Ok(())
 }
