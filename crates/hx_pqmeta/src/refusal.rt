@@ -7,8 +7,8 @@ use std::alloc::{AllocError, AllocFailed};
 
 /// Why a Parquet file isn't read: the first reason, in the order in which a file is looked at.
 ///
-/// Reading the footer or a page's header answers the reasons up to `Counts`; the others are for readers of columns,
-/// where `column` is a place in the list of the names that were asked for.
+/// Reading the footer answers the reasons up to `Counts`, a page's header `Thrift` and `Missing`. The others are for
+/// readers of columns, where `column` is a place in the list of the names that were asked for.
 #[derive(Clone, Copy, Debug, PartialEq, Eq)]
 pub enum PqRefusal {
     /// There is no memory.
@@ -29,11 +29,12 @@ pub enum PqRefusal {
     Column { column: u32 },
     /// A chunk is compressed.
     Codec { column: u32 },
-    /// A page isn't a data page of plain numbers.
+    /// A chunk has a dictionary, or a page isn't a data page of plain numbers, behind levels in runs where it has levels.
     Encoding { column: u32 },
-    /// A chunk or page is absent, or isn't as long as it has to be.
+    /// A chunk is absent, in another file, or has another number of values than its row group has rows; or a page isn't
+    /// where the pages are, its sizes or its number of values don't fit, or its body isn't as long as they say.
     Bounds { column: u32 },
-    /// A column has no value at the row.
+    /// A column has no value at the row, from 1.
     Null { row: u64 },
 }
 

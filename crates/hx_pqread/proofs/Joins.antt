@@ -95,12 +95,12 @@ lesser_again (Some a) None c = refl
 lesser_again (Some a) (Some b) None = refl
 lesser_again (Some a) (Some b) (Some c) = ap (λ (n : ℕ). Some n) (omega arith)
 
-pub one_column : (front : List (List (Option ℤ))) (values : List (Option ℤ)) → least_absent (front ++ values ∷ []) ≡ lesser (least_absent front) (first_absent 0 values)
-one_column [] values = nothing (first_absent 0 values) where
+pub one_column : (front : List (List (Option ℤ))) (values : List (Option ℤ)) → least_absent (front ++ values ∷ []) ≡ lesser (least_absent front) (first_absent 1 values)
+one_column [] values = nothing (first_absent 1 values) where
   nothing : (row : Option ℕ) → lesser row None ≡ row
   nothing None = refl
   nothing (Some row) = refl
-one_column (first ∷ front) values = ap (λ (row : Option ℕ). lesser (first_absent 0 first) row) (one_column front values) ∙ lesser_again (first_absent 0 first) (least_absent front) (first_absent 0 values)
+one_column (first ∷ front) values = ap (λ (row : Option ℕ). lesser (first_absent 1 first) row) (one_column front values) ∙ lesser_again (first_absent 1 first) (least_absent front) (first_absent 1 values)
 
 pub next_column : (footer : FooterRecord) (file : List ℕ) (column : ℕ) (name : List ℕ) (names : List (List ℕ)) (front : List (List (Option ℤ))) (values : List (Option ℤ)) → column_at footer file column name ≡ Ok values
     → with_columns front (columns_at footer file column (name ∷ names)) ≡ with_columns (front ++ values ∷ []) (columns_at footer file (column + 1) names)

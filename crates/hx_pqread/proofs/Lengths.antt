@@ -128,9 +128,9 @@ columns_lengths footer file column (name ∷ names) columns e none =
     let values = bind_ok (column_at footer file column name) (λ values. columns_at footer file (column + 1) names >>= λ more. Ok (values ∷ more)) columns e in
     let more = bind_ok (columns_at footer file (column + 1) names) (λ more. Ok (values.0 ∷ more)) columns values.2 in
     let whole : values.0 ∷ more.0 ≡ columns = same (values.0 ∷ more.0) columns (Ok (values.0 ∷ more.0)) (Ok columns) refl refl more.2 in
-    let absent = lesser_none (first_absent 0 values.0) (least_absent more.0) (ap least_absent whole ∙ none) in
+    let absent = lesser_none (first_absent 1 values.0) (least_absent more.0) (ap least_absent whole ∙ none) in
     let others = columns_lengths footer file (column + 1) names more.0 more.1 absent.1 in
-    let first : length (present values.0) ≡ rows_of footer.groups = sym (length_there (present values.0)) ∙ (ap length (there 0 values.0 absent.0) ∙ column_length footer file column name values.0 values.1) in
+    let first : length (present values.0) ≡ rows_of footer.groups = sym (length_there (present values.0)) ∙ (ap length (there 1 values.0 absent.0) ∙ column_length footer file column name values.0 values.1) in
     subst (λ (columns : List (List (Option ℤ))). (length (map present columns) ≡ suc (length names)) × AllRows (rows_of footer.groups) (map present columns)) whole
     (ap suc others.0, (first, others.1))
 

@@ -82,7 +82,7 @@ present_again (n ∷ numbers) = ap (λ (xs : List ℤ). n ∷ xs) (present_again
 
 least_again : (lists : List (List ℤ)) → least_absent (map all_there lists) ≡ None
 least_again [] = refl
-least_again (numbers ∷ lists) = rw (there_again 0 numbers, least_again lists) refl
+least_again (numbers ∷ lists) = rw (there_again 1 numbers, least_again lists) refl
 
 all_again : (lists : List (List ℤ)) → map present (map all_there lists) ≡ lists
 all_again [] = refl
@@ -98,11 +98,11 @@ columns_sound law footer file column (name ∷ names) columns e none =
     let values = bind_ok (column_at footer file column name) (λ values. columns_at footer file (column + 1) names >>= λ more. Ok (values ∷ more)) columns e in
     let more = bind_ok (columns_at footer file (column + 1) names) (λ more. Ok (values.0 ∷ more)) columns values.2 in
     let whole : values.0 ∷ more.0 ≡ columns = same (values.0 ∷ more.0) columns (Ok (values.0 ∷ more.0)) (Ok columns) refl refl more.2 in
-    let absent = lesser_none (first_absent 0 values.0) (least_absent more.0) (ap least_absent whole ∙ none) in
+    let absent = lesser_none (first_absent 1 values.0) (least_absent more.0) (ap least_absent whole ∙ none) in
     let first = column_sound law footer file column name values.0 values.1 in
     let others = columns_sound law footer file (column + 1) names more.0 more.1 absent.1 in
     subst (λ (columns : List (List (Option ℤ))). AreColumns footer file column (name ∷ names) (map present columns)) whole
-    (subst (λ (values : List (Option ℤ)). IsColumn footer file column name values) (sym (there 0 values.0 absent.0)) first, others)
+    (subst (λ (values : List (Option ℤ)). IsColumn footer file column name values) (sym (there 1 values.0 absent.0)) first, others)
 
 columns_complete : ReadsWhatIsSpelled → (footer : FooterRecord) (file : List ℕ) (column : ℕ) (names : List (List ℕ)) (lists : List (List ℤ)) → AreColumns footer file column names lists
     → columns_at footer file column names ≡ Ok (map all_there lists)

@@ -106,10 +106,10 @@ lesser None other = other
 lesser (Some row) None = Some row
 lesser (Some row) (Some other) = Some (min row other)
 
--- the least row at which one of the columns has no value
+-- the least row at which one of the columns has no value; rows count from 1
 abbrev pub least_absent : List (List (Option ℤ)) → Option ℕ
 least_absent [] = None
-least_absent (values ∷ columns) = lesser (first_absent 0 values) (least_absent columns)
+least_absent (values ∷ columns) = lesser (first_absent 1 values) (least_absent columns)
 
 -- the values that are there
 abbrev pub present : List (Option ℤ) → List ℤ

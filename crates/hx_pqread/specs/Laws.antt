@@ -85,8 +85,8 @@ abbrev pub refusal_of : {A : Type 0} → Result A PqRefusal → Option PqRefusal
 refusal_of (Ok x) = None
 refusal_of (Err refusal) = Some refusal
 
-abbrev pub pq_fault : (file : List ℕ) → (names : List (List ℕ)) → Option PqRefusal
-pq_fault file names = refusal_of (columns_in file names)
+abbrev pub parquet_fault : (file : List ℕ) → (names : List (List ℕ)) → Option PqRefusal
+parquet_fault file names = refusal_of (columns_in file names)
 
 -- A column has these values, some of which may be absent, exactly where reading gives them.
 abbrev pub ReadsAColumn : Type 0
@@ -99,4 +99,4 @@ ReadsWhatIsThere = (file : List ℕ) (names : List (List ℕ)) (lists : List (Li
 
 -- The first refusal is none exactly where a file has columns of these names.
 abbrev pub RefusesTheRest : Type 0
-RefusesTheRest = (file : List ℕ) (names : List (List ℕ)) → (pq_fault file names ≡ None) ↔ ((lists : List (List ℤ)) × HasColumns file names lists)
+RefusesTheRest = (file : List ℕ) (names : List (List ℕ)) → (parquet_fault file names ≡ None) ↔ ((lists : List (List ℤ)) × HasColumns file names lists)

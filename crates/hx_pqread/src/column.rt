@@ -50,13 +50,13 @@ pub fn read_column(
     read_spans(alloc, asked, &spans, file)
 }
 
-/// The row of the first absent value.
+/// The row of the first absent value, from 1.
 pub fn first_absent(values: &[Option<i64>]) -> Option<u64>
-    ensures { result ≡ first_absent 0 values.now }
+    ensures { result ≡ first_absent 1 values.now }
 {
     for row in 0..values.len() {
         if values[row].is_none() {
-            return Some(row as u64);
+            return Some(row as u64 + 1);
         }
     }
     None

@@ -11,7 +11,8 @@ use std::alloc::Global;
 ///
 /// The refusals of the footer come first. Then, for each name in order, comes Column, where not exactly one leaf has
 /// the name or its type isn't read; then the first refusal of its chunks in the order of the row groups; then that of
-/// its pages. Null comes last, and names the least row at which a column has no value. `column` is a name's place.
+/// its pages. Null comes last, and names the least row, from 1, at which a column has no value. `column` is the place
+/// of a name.
 ///
 /// All columns that are read have equally many numbers.
 pub fn columns(alloc: Global, bytes: &[u8], names: &[String]) -> Result<Columns, PqRefusal>

@@ -98,10 +98,13 @@ const TWO_GROUPS: [u8; 282] = [
     0x50, 0x41, 0x52, 0x31, // PAR1
 ];
 
-fn with_byte(alloc: Global, place: usize, byte: u8) -> Result<Vec<u8>, AllocError> {
+// The file of one row with other bytes at some places.
+fn changed(alloc: Global, changes: &[(usize, u8)]) -> Result<Vec<u8>, AllocError> {
     let mut file = ONE_ROW.to_vec(alloc)?;
-    if place < file.len() {
-        file[place] = byte;
+    for &(place, byte) in changes {
+        if place < file.len() {
+            file[place] = byte;
+        }
     }
     Ok(file)
 }
@@ -114,9 +117,18 @@ fn one_row(rt: HostRuntime) -> Result<(), Fail> {
 }
 
 #[test]
+fn first_bytes_of_a_file(rt: HostRuntime) -> Result<(), Fail> {
+    for len in [0, 4, 11, 12, 104] {
+        let front = &ONE_ROW[..len];
+        check(&rt, rt.alloc(), front, &["id"], Err(PqRefusal::NotParquet))?;
+    }
+    Ok(())
+}
+
+#[test]
 fn two_groups(rt: HostRuntime) -> Result<(), Fail> {
     check(&rt, rt.alloc(), &TWO_GROUPS, &["a"], Ok(&[&[-1, 5, 6]]))?;
-    let null = Err(PqRefusal::Null { row: 1 });
+    let null = Err(PqRefusal::Null { row: 2 });
     check(&rt, rt.alloc(), &TWO_GROUPS, &["b"], null)?;
     check(&rt, rt.alloc(), &TWO_GROUPS, &["a", "b"], null)?;
     let no_column = Err(PqRefusal::Column { column: 1 });
@@ -163,8 +175,79 @@ fn changed_bytes(rt: HostRuntime) -> Result<(), Fail> {
         (97, 0x60, PqRefusal::NotParquet),
     ];
     for (place, byte, refusal) in cases {
-        let file = with_byte(rt.alloc(), place, byte)?;
+        let file = changed(rt.alloc(), &[(place, byte)])?;
         check(&rt, rt.alloc(), &file, &["id"], Err(refusal))?;
+    }
+    Ok(())
+}
+
+// Of several faults the first is answered; and what isn't looked at may be anything.
+const CHANGES: [(&[(usize, u8)], Expected); 15] = [
+    // A dictionary page without the header of a data page, with sizes that differ, without a size.
+    (
+        &[(5, 0x04), (10, 0x3c)],
+        Err(PqRefusal::Encoding { column: 0 }),
+    ),
+    (
+        &[(5, 0x04), (7, 0x1e)],
+        Err(PqRefusal::Encoding { column: 0 }),
+    ),
+    (
+        &[(5, 0x04), (8, 0x16)],
+        Err(PqRefusal::Missing { field: 603 }),
+    ),
+    // The encoding of the numbers, that of the levels, the sizes.
+    (
+        &[(14, 0x10), (15, 0x16)],
+        Err(PqRefusal::Encoding { column: 0 }),
+    ),
+    (
+        &[(7, 0x1e), (15, 0x16)],
+        Err(PqRefusal::Missing { field: 703 }),
+    ),
+    (
+        &[(7, 0x1e), (16, 0x08)],
+        Err(PqRefusal::Encoding { column: 0 }),
+    ),
+    // A chunk's fields are there before its codec is looked at.
+    (
+        &[(80, 0x02), (81, 0x15)],
+        Err(PqRefusal::Missing { field: 505 }),
+    ),
+    (
+        &[(80, 0x02), (87, 0x25)],
+        Err(PqRefusal::Missing { field: 509 }),
+    ),
+    // The codec before the pages.
+    (
+        &[(80, 0x02), (5, 0x04)],
+        Err(PqRefusal::Codec { column: 0 }),
+    ),
+    // A leaf that is repeated.
+    (&[(53, 0x04), (80, 0x02)], Err(PqRefusal::Nested)),
+    // A REQUIRED leaf: the body, here of eight bytes, is the number, and the encoding of levels isn't looked at.
+    (
+        &[(53, 0x00), (7, 0x10), (9, 0x10)],
+        Ok(&[&[0x0007_0102_0000_0002]]),
+    ),
+    (
+        &[(53, 0x00), (7, 0x10), (9, 0x10), (15, 0x16)],
+        Ok(&[&[0x0007_0102_0000_0002]]),
+    ),
+    (
+        &[(53, 0x00), (7, 0x10), (9, 0x10), (16, 0x08)],
+        Ok(&[&[0x0007_0102_0000_0002]]),
+    ),
+    // The encoding of repetition levels, the sizes of the chunk.
+    (&[(18, 0x08)], Ok(&[&[7]])),
+    (&[(84, 0x00), (86, 0x00)], Ok(&[&[7]])),
+];
+
+#[test]
+fn several_changes(rt: HostRuntime) -> Result<(), Fail> {
+    for (changes, expected) in CHANGES {
+        let file = changed(rt.alloc(), changes)?;
+        check(&rt, rt.alloc(), &file, &["id"], expected)?;
     }
     Ok(())
 }

@@ -16,7 +16,7 @@ use Rattle.hx_rows.specs.declared.fault.Fault.TheVariants as fault
 abbrev pub five_names : List (List ℕ)
 five_names = codes "_healpix_29" ∷ codes "id" ∷ codes "cx" ∷ codes "cy" ∷ codes "cz" ∷ []
 
--- A refusal of the columns as a fault: its row, or 0 for the file as a whole, and its number. Columns count their rows from 0.
+-- A refusal of the columns as a fault: its row, or 0 for the file as a whole, and its number.
 abbrev pub file_fault : PqRefusal → ℕ × ℕ
 file_fault (refusal.Column column) = (0, 1)
 file_fault refusal.NotParquet = (0, 9)
@@ -27,7 +27,7 @@ file_fault (refusal.Codec column) = (0, 10)
 file_fault (refusal.Encoding column) = (0, 10)
 file_fault refusal.Counts = (0, 11)
 file_fault (refusal.Bounds column) = (0, 11)
-file_fault (refusal.Null row) = (suc row, 12)
+file_fault (refusal.Null row) = (row, 12)
 -- no file is refused for memory: that is an answer of a call alone
 file_fault refusal.Memory = (0, 9)
 

@@ -134,16 +134,6 @@ fn rows_across(
     Ok(rows)
 }
 
-// The row of an absent value is counted from 0 in its column. No list in memory has more rows than a u64.
-fn absent_at(row: u64) -> RowRefusal
-    ensures { Reads (Err result) (Err (file_fault (PqRefusal.Null row))) }
-{
-    match row.checked_add(1) {
-        Some(row) => RowRefusal::Bad { row, why: 12 },
-        None => RowRefusal::Memory,
-    }
-}
-
 // The refusal of an input whose columns are refused.
 fn refused_file(refusal: PqRefusal) -> RowRefusal
     ensures memory { refusal ≡ PqRefusal.Memory → result ≡ RowRefusal.Memory }
@@ -151,7 +141,7 @@ fn refused_file(refusal: PqRefusal) -> RowRefusal
 {
     let why = match refusal {
         PqRefusal::Memory => return RowRefusal::Memory,
-        PqRefusal::Null { row } => return absent_at(row),
+        PqRefusal::Null { row } => return RowRefusal::Bad { row, why: 12 },
         PqRefusal::Column { .. } => 1,
         PqRefusal::NotParquet | PqRefusal::Thrift { .. } | PqRefusal::Missing { .. } => 9,
         PqRefusal::Nested | PqRefusal::Codec { .. } | PqRefusal::Encoding { .. } => 10,

@@ -68,21 +68,21 @@ const OPTIONAL_INT32: [(i64, &'static [u8], Expected); 32] = [
     (1, b"\x05\0\0\0\x03\x01\xff\xff\xff\x05\0\0\0", Ok(&[&[5]])),
     (1, b"\x03\0\0\0\x02\x01\x80\x05\0\0\0", Ok(&[&[5]])),
     // Absent values, of which the first row is named. In a group the least significant bit comes first.
-    (1, b"\x02\0\0\0\x02\0", Err(PqRefusal::Null { row: 0 })),
+    (1, b"\x02\0\0\0\x02\0", Err(PqRefusal::Null { row: 1 })),
     (
         2,
         b"\x02\0\0\0\x03\x01\x05\0\0\0",
-        Err(PqRefusal::Null { row: 1 }),
+        Err(PqRefusal::Null { row: 2 }),
     ),
     (
         3,
         b"\x04\0\0\0\x02\x01\x04\0\x05\0\0\0",
-        Err(PqRefusal::Null { row: 1 }),
+        Err(PqRefusal::Null { row: 2 }),
     ),
     (
         8,
         b"\x02\0\0\0\x03\x3f\x01\0\0\0\x02\0\0\0\x03\0\0\0\x04\0\0\0\x05\0\0\0\x06\0\0\0",
-        Err(PqRefusal::Null { row: 6 }),
+        Err(PqRefusal::Null { row: 7 }),
     ),
     // A level of 2, also in a run of no levels.
     (1, b"\x02\0\0\0\x02\x02\x05\0\0\0", BOUNDS),
@@ -124,7 +124,7 @@ const OPTIONAL_INT64: [(i64, &'static [u8], Expected); 4] = [
     (
         2,
         b"\x02\0\0\0\x03\x02\x07\0\0\0\0\0\0\0",
-        Err(PqRefusal::Null { row: 0 }),
+        Err(PqRefusal::Null { row: 1 }),
     ),
     (1, b"\x02\0\0\0\x02\x01\x07\0\0\0", BOUNDS),
 ];

@@ -166,7 +166,7 @@ fn header_cut_short(rt: HostRuntime) -> Result<(), Fail> {
 }
 
 // A chunk's codec, the place of its dictionary, its number of values, whether it is in another file.
-const FIELDS: [(i64, Option<i64>, Option<i64>, bool, Expected); 11] = [
+const FIELDS: [(i64, Option<i64>, Option<i64>, bool, Expected); 12] = [
     (0, None, None, false, Ok(&[&[7]])),
     (0, Some(0), Some(1), false, Ok(&[&[7]])),
     (0, Some(-4), None, false, Ok(&[&[7]])),
@@ -183,6 +183,13 @@ const FIELDS: [(i64, Option<i64>, Option<i64>, bool, Expected); 11] = [
     (0, None, Some(0), false, BOUNDS),
     (0, None, Some(-1), false, BOUNDS),
     // The first of several.
+    (
+        0,
+        Some(4),
+        Some(2),
+        false,
+        Err(PqRefusal::Encoding { column: 0 }),
+    ),
     (1, Some(4), None, true, BOUNDS),
     (
         1,
@@ -368,9 +375,9 @@ const ASKED: [(&[&str], Expected); 12] = [
     (&["a"], Ok(&[&[7, 8, 9]])),
     (&["a", "a"], Ok(&[&[7, 8, 9], &[7, 8, 9]])),
     // The least row in which a column has no value, whichever column that is.
-    (&["a", "b"], Err(PqRefusal::Null { row: 2 })),
-    (&["a", "b", "c"], Err(PqRefusal::Null { row: 0 })),
-    (&["c", "b"], Err(PqRefusal::Null { row: 0 })),
+    (&["a", "b"], Err(PqRefusal::Null { row: 3 })),
+    (&["a", "b", "c"], Err(PqRefusal::Null { row: 1 })),
+    (&["c", "b"], Err(PqRefusal::Null { row: 1 })),
     // Every other refusal comes before an absent value, and by its name's place.
     (&["b", "d"], Err(PqRefusal::Column { column: 1 })),
     (&["d", "b"], Err(PqRefusal::Column { column: 0 })),
