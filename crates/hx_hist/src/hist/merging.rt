@@ -1,15 +1,20 @@
 //! Two histograms as one.
-ghost use Rattle.std.specs.Prelude.{◌≡◌, ◌+◌, ◌^◌, ◌<◌, ◌⊎◌, ℕ, IfOk, IsTrue, length, false};
+ghost use Rattle.std.specs.Prelude.{◌≡◌, ◌+◌, ◌^◌, ◌<◌, ◌≤◌, ◌⊎◌, ℕ, IfOk, IsTrue, length, slice_index_or, false};
 ghost use Rattle.hx_hist.specs.Histograms.{count_at, total_of};
+ghost use Rattle.hx_hist.specs.declared.hist.Pair.{Pair};
 
 use super::{Hist, Pair};
 use std::alloc::{AllocError, Global};
 
-// Whether the next pair comes from the left list, where one of the two has a pair left.
+// Whether the next pair comes from the left list, where one of the two has a pair left: the one of the lesser pixel.
 fn is_left_next(left: &[Pair], i: usize, right: &[Pair], j: usize) -> bool
     requires { (i < length left.now) ⊎ (j < length right.now) }
     ensures left { IsTrue result → i < length left.now }
     ensures right { result ≡ false → j < length right.now }
+    ensures left_least { (d : Pair) → IsTrue result → j < length right.now →
+        (slice_index_or left.now i d).pixel ≤ (slice_index_or right.now j d).pixel }
+    ensures right_least { (d : Pair) → result ≡ false → i < length left.now →
+        (slice_index_or right.now j d).pixel < (slice_index_or left.now i d).pixel }
 {
     if j >= right.len() {
         return true;
