@@ -6,15 +6,15 @@ use Rattle.std.proofs.lemmas.List.Elements.{All-contains_itself}
 use Rattle.std.proofs.lemmas.Nat.{pow-add}
 use Rattle.std.proofs.Math.Nat.{div-div-eq-div-mul}
 use Rattle.hx_base.specs.declared.pixel.Pixel.{Pixel}
-use Rattle.hx_base.specs.Pixels.{IsPixel, LiesIn, HoldsPlace, AreDisjoint, AreDisjointInOrder, first_place, pixel_of}
+use Rattle.hx_base.specs.Pixels.{IsPixel, LiesIn, HoldsPosition, AreDisjoint, AreDisjointInOrder, first_position, pixel_of}
 use Rattle.hx_base.specs.Partitions.{ArePartitions, IsPartition, IsOverfull, IsFirstOverfull, NothingOverfull, holders_of, parent}
 use Rattle.hx_base.proofs.Powers.{parent_below, pixel_below}
 
 -- ancestors of ancestors
-pub up_again : (n j k place : ℕ) → k ≤ j → j ≤ n → place / 4 ^ (n - j) / 4 ^ (j - k) ≡ place / 4 ^ (n - k)
-up_again n j k place kj jn =
+pub up_again : (n j k position : ℕ) → k ≤ j → j ≤ n → position / 4 ^ (n - j) / 4 ^ (j - k) ≡ position / 4 ^ (n - k)
+up_again n j k position kj jn =
     let e : n - j + (j - k) ≡ n - k = omega arith in
-    div-div-eq-div-mul place (4 ^ (n - j)) (4 ^ (j - k)) ∙ ap (λ (d : ℕ). place / d) (sym (pow-add 4 (n - j) (j - k)) ∙ ap (λ (m : ℕ). 4 ^ m) e)
+    div-div-eq-div-mul position (4 ^ (n - j)) (4 ^ (j - k)) ∙ ap (λ (d : ℕ). position / d) (sym (pow-add 4 (n - j) (j - k)) ∙ ap (λ (m : ℕ). 4 ^ m) e)
 
 pub parent_up : (j k number : ℕ) → k < j → number / 4 / 4 ^ (j - 1 - k) ≡ number / 4 ^ (j - k)
 parent_up j k number lt =
@@ -31,20 +31,20 @@ parent_exists pixel some h = record {
 }
 
 -- what a pixel holds, each pixel holds that it lies in
-pub holds_outer : (inner outer : Pixel) (place : ℕ) → inner.order ≤ 29 → LiesIn inner outer → HoldsPlace inner place → HoldsPlace outer place
+pub holds_outer : (inner outer : Pixel) (position : ℕ) → inner.order ≤ 29 → LiesIn inner outer → HoldsPosition inner position → HoldsPosition outer position
 unfolding pixel_of
-holds_outer inner outer place within lies holds =
-    sym (up_again 29 inner.order outer.order place lies.order within) ∙ ap (λ (n : ℕ). n / 4 ^ (inner.order - outer.order)) holds ∙ lies.number
+holds_outer inner outer position within lies holds =
+    sym (up_again 29 inner.order outer.order position lies.order within) ∙ ap (λ (n : ℕ). n / 4 ^ (inner.order - outer.order)) holds ∙ lies.number
 
 -- of two pixels of different orders that hold a position, the finer one's parent lies in the other
-pub lies_in_holder : (outer inner : Pixel) (place : ℕ) → outer.order < inner.order → inner.order ≤ 29 → HoldsPlace outer place → HoldsPlace inner place → LiesIn (parent inner) outer
+pub lies_in_holder : (outer inner : Pixel) (position : ℕ) → outer.order < inner.order → inner.order ≤ 29 → HoldsPosition outer position → HoldsPosition inner position → LiesIn (parent inner) outer
 unfolding pixel_of
-lies_in_holder outer inner place lt within holds_outer holds_inner = record {
+lies_in_holder outer inner position lt within holds_outer holds_inner = record {
   order = omega arith;
   number =
       parent_up inner.order outer.order inner.number lt
       ∙ ap (λ (n : ℕ). n / 4 ^ (inner.order - outer.order)) (sym holds_inner)
-      ∙ up_again 29 inner.order outer.order place (omega arith) within ∙ holds_outer;
+      ∙ up_again 29 inner.order outer.order position (omega arith) within ∙ holds_outer;
 }
 
 -- a pixel has as many rows as each one that lies in it, or more
@@ -52,26 +52,26 @@ pub record IsMonotone (highest : ℕ) (count : Pixel → ℕ) : Type 0 where
   pub grows : (inner outer : Pixel) → IsPixel inner → inner.order ≤ highest → LiesIn inner outer → count inner ≤ count outer
 
 module _ (count : Pixel → ℕ) (lowest highest threshold : ℕ) (grows : IsMonotone highest count) where
-  below_a_partition : (outer inner : Pixel) (place : ℕ) → IsPartition count lowest highest threshold outer → IsPartition count lowest highest threshold inner → outer.order < inner.order
-      → HoldsPlace outer place → HoldsPlace inner place → ⊥
-  below_a_partition outer inner place a b lt holds_outer holds_inner =
+  below_a_partition : (outer inner : Pixel) (position : ℕ) → IsPartition count lowest highest threshold outer → IsPartition count lowest highest threshold inner → outer.order < inner.order
+      → HoldsPosition outer position → HoldsPosition inner position → ⊥
+  below_a_partition outer inner position a b lt holds_outer holds_inner =
       elim b.largest [
         | inl least ↦ absurd (omega (arith, a.not_lower, least))
         | inr more ↦
-            let lies = lies_in_holder outer inner place lt b.exists.order holds_outer holds_inner in
+            let lies = lies_in_holder outer inner position lt b.exists.order holds_outer holds_inner in
             let fewer = grows.grows (parent inner) outer (parent_exists inner (omega arith) b.exists) (omega (arith, b.not_higher)) lies in
             absurd (omega (arith, fewer, more, a.most))
       ]
 
-  pub two_partitions : (a b : Pixel) → IsPartition count lowest highest threshold a → IsPartition count lowest highest threshold b → first_place a < first_place b → AreDisjoint a b
-  two_partitions a b is_a is_b lt = λ place holds_a holds_b.
+  pub two_partitions : (a b : Pixel) → IsPartition count lowest highest threshold a → IsPartition count lowest highest threshold b → first_position a < first_position b → AreDisjoint a b
+  two_partitions a b is_a is_b lt = λ position holds_a holds_b.
       elim (cases_order a.order b.order) [
         | inl same ↦
-            let numbers : a.number ≡ b.number = sym holds_a ∙ ap (λ (k : ℕ). pixel_of k place) same ∙ holds_b in
-            let places : first_place a ≡ first_place b = rw (same, numbers) refl in
+            let numbers : a.number ≡ b.number = sym holds_a ∙ ap (λ (k : ℕ). pixel_of k position) same ∙ holds_b in
+            let places : first_position a ≡ first_position b = rw (same, numbers) refl in
             absurd (omega (arith, lt, places))
-        | inr (inl less) ↦ below_a_partition a b place is_a is_b less holds_a holds_b
-        | inr (inr more) ↦ below_a_partition b a place is_b is_a more holds_b holds_a
+        | inr (inl less) ↦ below_a_partition a b position is_a is_b less holds_a holds_b
+        | inr (inr more) ↦ below_a_partition b a position is_b is_a more holds_b holds_a
       ]
 
   pub partitions_disjoint : (pixels : List Pixel) → ArePartitions count lowest highest threshold pixels → AreDisjointInOrder pixels
@@ -84,25 +84,25 @@ module _ (count : Pixel → ℕ) (lowest highest threshold : ℕ) (grows : IsMon
       }
 
 -- a position in pixels that all have rows, none of them overfull, is in a partition
-module _ (count : Pixel → ℕ) (lowest highest threshold place : ℕ) (orders : lowest ≤ highest) (within : highest ≤ 29) (below : place < 12 * 4 ^ 29)
-    (some : (pixel : Pixel) → HoldsPlace pixel place → 1 ≤ count pixel) (fits : NothingOverfull count highest threshold) where
+module _ (count : Pixel → ℕ) (lowest highest threshold position : ℕ) (orders : lowest ≤ highest) (within : highest ≤ 29) (below : position < 12 * 4 ^ 29)
+    (some : (pixel : Pixel) → HoldsPosition pixel position → 1 ≤ count pixel) (fits : NothingOverfull count highest threshold) where
   abbrev at : ℕ → Pixel
-  at k = record { order = k; number = pixel_of k place }
+  at k = record { order = k; number = pixel_of k position }
 
   there_is : (k : ℕ) → k ≤ 29 → IsPixel (at k)
-  there_is k h = record { order = h; number = pixel_below k place h below }
+  there_is k h = record { order = h; number = pixel_below k position h below }
 
   parent_at : (k : ℕ) → k < highest → parent (at (k + 1)) ≡ at k
   unfolding pixel_of
   parent_at k lt =
       let e : k + 1 - 1 ≡ k = omega arith in
-      let up = up_again 29 (k + 1) k place (omega arith) (omega arith) in
+      let up = up_again 29 (k + 1) k position (omega arith) (omega arith) in
       let one : k + 1 - k ≡ 1 = omega arith in
-      let quarter : place / 4 ^ (29 - (k + 1)) / 4 ≡ place / 4 ^ (29 - k) = subst (λ (m : ℕ). place / 4 ^ (29 - (k + 1)) / 4 ^ m ≡ place / 4 ^ (29 - k)) one up in
+      let quarter : position / 4 ^ (29 - (k + 1)) / 4 ≡ position / 4 ^ (29 - k) = subst (λ (m : ℕ). position / 4 ^ (29 - (k + 1)) / 4 ^ m ≡ position / 4 ^ (29 - k)) one up in
       rw (e, quarter) refl
 
   abbrev Found : Type 0
-  Found = (pixel : Pixel) × IsPartition count lowest highest threshold pixel × HoldsPlace pixel place
+  Found = (pixel : Pixel) × IsPartition count lowest highest threshold pixel × HoldsPosition pixel position
 
   is_partition : (k : ℕ) → lowest ≤ k → k ≤ highest → count (at k) ≤ threshold → ((k ≡ lowest) ⊎ (threshold < count (parent (at k)))) → Found
   is_partition k low high most largest = (at k, record { exists = there_is k (omega arith); not_lower = low; not_higher = high; some = some (at k) refl; most = most; largest = largest }, refl)
@@ -112,7 +112,7 @@ module _ (count : Pixel → ℕ) (lowest highest threshold place : ℕ) (orders 
       elim (cases_lt threshold (count (at k))) [
         | inl more ↦
             let top : k ≡ highest = omega arith in
-            absurd (fits (pixel_of highest place) (record { exists = pixel_below highest place within below; more = subst (λ (j : ℕ). threshold < count (at j)) top more }))
+            absurd (fits (pixel_of highest position) (record { exists = pixel_below highest position within below; more = subst (λ (j : ℕ). threshold < count (at j)) top more }))
         | inr most ↦ is_partition k low (omega arith) most largest
       ]
   find_from (suc d) k e low largest =
@@ -121,35 +121,35 @@ module _ (count : Pixel → ℕ) (lowest highest threshold place : ℕ) (orders 
         | inr most ↦ is_partition k low (omega arith) most largest
       ]
 
-  pub in_a_partition : (pixel : Pixel) × IsPartition count lowest highest threshold pixel × HoldsPlace pixel place
+  pub in_a_partition : (pixel : Pixel) × IsPartition count lowest highest threshold pixel × HoldsPosition pixel position
   in_a_partition = find_from (highest - lowest) lowest (omega arith) (omega arith) (inl refl)
 
 -- of disjoint pixels one at most holds a position
 abbrev holds : ℕ → Pixel → Bool
-holds place pixel = pixel_of pixel.order place == pixel.number
+holds position pixel = pixel_of pixel.order position == pixel.number
 
-no_holders : (place : ℕ) (pixels : List Pixel) → ((k : ℕ) (d : Pixel) → k < length pixels → ¬ (HoldsPlace (get_or pixels k d) place)) → holders_of place pixels ≡ []
-no_holders place [] none = refl
-no_holders place (p ∷ ps) none =
-    rw (ne_eqb (pixel_of p.order place) p.number (none 0 p (omega arith))) (no_holders place ps (λ k d lt. none (suc k) d (omega (arith, lt))))
+no_holders : (position : ℕ) (pixels : List Pixel) → ((k : ℕ) (d : Pixel) → k < length pixels → ¬ (HoldsPosition (get_or pixels k d) position)) → holders_of position pixels ≡ []
+no_holders position [] none = refl
+no_holders position (p ∷ ps) none =
+    rw (ne_eqb (pixel_of p.order position) p.number (none 0 p (omega arith))) (no_holders position ps (λ k d lt. none (suc k) d (omega (arith, lt))))
 
 tail_pairs : (R : Pixel → Pixel → Type 0) (p : Pixel) (ps : List Pixel) → AllPairs R (p ∷ ps) → AllPairs R ps
 tail_pairs R p ps h = λ i j d lt within. h (suc i) (suc j) d (omega arith) (omega (arith, within))
 
-one_holder : (place : ℕ) (pixels : List Pixel) (k : ℕ) (pixel : Pixel) → AllPairs AreDisjoint pixels → k < length pixels → get_or pixels k pixel ≡ pixel → HoldsPlace pixel place
-    → length (holders_of place pixels) ≡ 1
-one_holder place [] k pixel apart within is holds = absurd (omega (arith, within))
-one_holder place (p ∷ ps) zero pixel apart within is holds =
-    let here : HoldsPlace p place = subst (λ (q : Pixel). HoldsPlace q place) (sym is) holds in
-    let rest = no_holders place ps (λ j d lt other. apart 0 (suc j) d (omega arith) (omega (arith, lt)) place here other) in
-    rw (eq-eqb (pixel_of p.order place) p.number here, rest) refl
-one_holder place (p ∷ ps) (suc k) pixel apart within is holds =
-    let later : HoldsPlace (get_or ps k pixel) place = subst (λ (q : Pixel). HoldsPlace q place) (sym is) holds in
-    let not_here = λ (here : HoldsPlace p place). apart 0 (suc k) pixel (omega arith) within place here later in
-    rw (ne_eqb (pixel_of p.order place) p.number not_here) (one_holder place ps k pixel (tail_pairs AreDisjoint p ps apart) (omega (arith, within)) is holds)
+one_holder : (position : ℕ) (pixels : List Pixel) (k : ℕ) (pixel : Pixel) → AllPairs AreDisjoint pixels → k < length pixels → get_or pixels k pixel ≡ pixel → HoldsPosition pixel position
+    → length (holders_of position pixels) ≡ 1
+one_holder position [] k pixel apart within is holds = absurd (omega (arith, within))
+one_holder position (p ∷ ps) zero pixel apart within is holds =
+    let here : HoldsPosition p position = subst (λ (q : Pixel). HoldsPosition q position) (sym is) holds in
+    let rest = no_holders position ps (λ j d lt other. apart 0 (suc j) d (omega arith) (omega (arith, lt)) position here other) in
+    rw (eq-eqb (pixel_of p.order position) p.number here, rest) refl
+one_holder position (p ∷ ps) (suc k) pixel apart within is holds =
+    let later : HoldsPosition (get_or ps k pixel) position = subst (λ (q : Pixel). HoldsPosition q position) (sym is) holds in
+    let not_here = λ (here : HoldsPosition p position). apart 0 (suc k) pixel (omega arith) within position here later in
+    rw (ne_eqb (pixel_of p.order position) p.number not_here) (one_holder position ps k pixel (tail_pairs AreDisjoint p ps apart) (omega (arith, within)) is holds)
 
-pub holders_one : (place : ℕ) (pixels : List Pixel) (pixel : Pixel) → AllPairs AreDisjoint pixels → Contains pixels pixel → HoldsPlace pixel place → length (holders_of place pixels) ≡ 1
-holders_one place pixels pixel apart member holds = one_holder place pixels member.0 pixel apart member.1 member.2 holds
+pub holders_one : (position : ℕ) (pixels : List Pixel) (pixel : Pixel) → AllPairs AreDisjoint pixels → Contains pixels pixel → HoldsPosition pixel position → length (holders_of position pixels) ≡ 1
+holders_one position pixels pixel apart member holds = one_holder position pixels member.0 pixel apart member.1 member.2 holds
 
 -- two lists in strict order that have the same members are one
 module _ {X : Type 0} (f : X → ℕ) where
@@ -199,7 +199,7 @@ module _ {X : Type 0} (f : X → ℕ) where
 -- there is one list of all partitions at most
 pub partitions_unique : (count : Pixel → ℕ) (lowest highest threshold : ℕ) (pixels others : List Pixel) → ArePartitions count lowest highest threshold pixels → ArePartitions count lowest highest threshold others → pixels ≡ others
 partitions_unique count lowest highest threshold pixels others h g =
-    same_members first_place pixels others h.ordered g.ordered (λ z m. (g.exact z).1 ((h.exact z).0 m)) (λ z m. (h.exact z).1 ((g.exact z).0 m))
+    same_members first_position pixels others h.ordered g.ordered (λ z m. (g.exact z).1 ((h.exact z).0 m)) (λ z m. (h.exact z).1 ((g.exact z).0 m))
 
 -- counts that agree on the pixels that there are, up to the highest order
 pub record Agree (highest : ℕ) (count other : Pixel → ℕ) : Type 0 where

@@ -1,8 +1,11 @@
+pub mod Sorted
 pub mod Rows
+pub mod Columns
 pub mod Pixels
 pub mod Touching
 pub mod FileWords
 pub mod Refusals
+pub mod FirstRefusals
 pub mod Partitions
 pub mod Names
 pub mod Limits

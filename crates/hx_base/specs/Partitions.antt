@@ -1,11 +1,11 @@
 -- Partitions: the pixels into which a catalogue is cut, by how many rows each contains.
-use Rattle.std.specs.Prelude.{◌≡◌, ◌==◌, ◌-◌, ◌*◌, ◌/◌, ◌^◌, ◌<◌, ◌≤◌, ◌⊎◌, ◌↔◌, ℕ, List, AllPairs, Contains, filter}
+use Rattle.std.specs.Prelude.{◌≡◌, ◌==◌, ◌*◌, ◌^◌, ◌<◌, ◌≤◌, ◌⊎◌, ◌↔◌, ℕ, List, AllPairs, Contains, filter}
 use Rattle.hx_base.specs.declared.pixel.Pixel.{Pixel}
-use Rattle.hx_base.specs.Pixels.{IsPixel, pixel_of, first_place}
+use Rattle.hx_base.specs.Pixels.{IsPixel, ancestor, pixel_of, first_position}
 
 -- the pixel of the order before that a pixel lies in
 abbrev pub parent : Pixel → Pixel
-parent pixel = record { order = pixel.order - 1; number = pixel.number / 4 }
+parent pixel = ancestor 1 pixel
 
 -- a pixel is a partition where it has rows, no more than the threshold, and no larger pixel would do: its order is the lowest, or its parent has more
 pub record IsPartition (count : Pixel → ℕ) (lowest highest threshold : ℕ) (pixel : Pixel) : Type 0 where
@@ -19,7 +19,7 @@ pub record IsPartition (count : Pixel → ℕ) (lowest highest threshold : ℕ) 
 -- the list of all partitions, by their first positions
 pub record ArePartitions (count : Pixel → ℕ) (lowest highest threshold : ℕ) (pixels : List Pixel) : Type 0 where
   pub exact : (pixel : Pixel) → Contains pixels pixel ↔ IsPartition count lowest highest threshold pixel
-  pub ordered : AllPairs (λ a b. first_place a < first_place b) pixels
+  pub ordered : AllPairs (λ a b. first_position a < first_position b) pixels
 
 -- a pixel of the highest order has more rows than the threshold, so it can't be cut further
 pub record IsOverfull (count : Pixel → ℕ) (highest threshold number : ℕ) : Type 0 where
@@ -36,4 +36,4 @@ NothingOverfull count highest threshold = (number : ℕ) → ¬ (IsOverfull coun
 
 -- the pixels of a list that hold a position
 abbrev pub holders_of : ℕ → List Pixel → List Pixel
-holders_of place pixels = filter (λ pixel. pixel_of pixel.order place == pixel.number) pixels
+holders_of position pixels = filter (λ pixel. pixel_of pixel.order position == pixel.number) pixels

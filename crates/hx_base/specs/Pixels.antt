@@ -13,15 +13,19 @@ unfoldable pub pixel_of : ℕ → ℕ → ℕ
 pixel_of k position = position / 4 ^ (29 - k)
 
 -- a pixel holds an order-29 position
-abbrev pub HoldsPlace : Pixel → ℕ → Type 0
-HoldsPlace pixel place = pixel_of pixel.order place ≡ pixel.number
+abbrev pub HoldsPosition : Pixel → ℕ → Type 0
+HoldsPosition pixel position = pixel_of pixel.order position ≡ pixel.number
 
 -- the first order-29 position of a pixel, and the one behind its last
-abbrev pub first_place : Pixel → ℕ
-first_place pixel = pixel.number * 4 ^ (29 - pixel.order)
+abbrev pub first_position : Pixel → ℕ
+first_position pixel = pixel.number * 4 ^ (29 - pixel.order)
 
-abbrev pub end_place : Pixel → ℕ
-end_place pixel = (pixel.number + 1) * 4 ^ (29 - pixel.order)
+abbrev pub end_position : Pixel → ℕ
+end_position pixel = (pixel.number + 1) * 4 ^ (29 - pixel.order)
+
+-- the pixel some orders up in which a pixel lies
+abbrev pub ancestor : ℕ → Pixel → Pixel
+ancestor steps pixel = record { order = pixel.order - steps; number = pixel.number / 4 ^ steps }
 
 -- a pixel lies in another one or is that one
 pub record LiesIn (inner outer : Pixel) : Type 0 where
@@ -30,16 +34,16 @@ pub record LiesIn (inner outer : Pixel) : Type 0 where
 
 -- no position lies in both
 abbrev pub AreDisjoint : Pixel → Pixel → Type 0
-AreDisjoint a b = (place : ℕ) → HoldsPlace a place → HoldsPlace b place → ⊥
+AreDisjoint a b = (position : ℕ) → HoldsPosition a position → HoldsPosition b position → ⊥
 
 -- pixels of any orders that share no position, by their first positions
 pub record AreDisjointInOrder (pixels : List Pixel) : Type 0 where
   pub each : All IsPixel pixels
   pub disjoint : AllPairs AreDisjoint pixels
-  pub ordered : AllPairs (λ a b. first_place a < first_place b) pixels
+  pub ordered : AllPairs (λ a b. first_position a < first_position b) pixels
 
 abbrev pub PixelContains : Pixel → Row → Type 0
-PixelContains pixel row = HoldsPlace pixel row.hp
+PixelContains pixel row = HoldsPosition pixel row.hp
 
 -- the rows of a list that a pixel contains, in the list's order
 abbrev pub rows_in : Pixel → List Row → List Row

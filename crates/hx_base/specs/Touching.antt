@@ -10,11 +10,11 @@
 -- to the east, a step of y half a width to the west, and 8n halves go round.
 -- In a cap the faces narrow towards the pole. On the ring v rings from the pole each of the cap's four faces has v steps, counted from its
 -- western side, so 4v go round; at the pole itself there is one point.
--- A corner where several faces meet gets one ring and one place from each of them. That alone says which pixels touch, without a table
+-- A corner where several faces meet gets one ring and one index on it from each of them. That alone says which pixels touch, without a table
 -- of sides.
 use Rattle.std.specs.Prelude.{◌≡◌, ◌≢◌, ◌==◌, ◌+◌, ◌-◌, ◌*◌, ◌/◌, ◌%◌, ◌^◌, ◌<◌, ◌≤◌, ◌||◌, if◌then◌else◌, ℕ, zero, suc, nat_lt}
 
--- the lowest k bits of x at the even places, and those of y at the odd places
+-- the lowest k bits of x at the even digits, and those of y at the odd digits, the lowest digit first
 abbrev pub interleave : ℕ → ℕ → ℕ → ℕ
 interleave zero x y = 0
 interleave (suc k) x y = x % 2 + 2 * (y % 2) + 4 * interleave k (x / 2) (y / 2)
@@ -34,17 +34,17 @@ ring n face x y = (2 + face / 4) * n - x - y
 abbrev pub middle : ℕ → ℕ
 middle face = 2 * (face % 4) + (face / 4 + 1) % 2
 
--- the place of a corner of a face on ring v, eastwards from the meridian of face 0's western corner
-abbrev pub place_on : ℕ → ℕ → ℕ → ℕ → ℕ → ℕ
-place_on n face x y v =
+-- the index of a corner of a face on ring v, eastwards from the meridian of face 0's western corner
+abbrev pub index_on : ℕ → ℕ → ℕ → ℕ → ℕ → ℕ
+index_on n face x y v =
     if v == 0 || v == 4 * n then 0
     else if nat_lt v n then (face * v + (n - y)) % (4 * v)
     else if nat_lt (3 * n) v then ((face - 8) * (4 * n - v) + x) % (4 * (4 * n - v))
     else (middle face * n + 8 * n + x - y) % (8 * n)
 
--- the point of the sphere at corner (x, y) of a face, as its ring and its place on the ring
+-- the point of the sphere at corner (x, y) of a face, as its ring and its index on the ring
 abbrev pub corner_point : ℕ → ℕ → ℕ → ℕ → ℕ × ℕ
-corner_point n face x y = (ring n face x y, place_on n face x y (ring n face x y))
+corner_point n face x y = (ring n face x y, index_on n face x y (ring n face x y))
 
 -- a point is one of a pixel's four corners
 abbrev pub HasCorner : ℕ → ℕ → ℕ × ℕ → Type 0

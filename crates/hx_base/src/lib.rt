@@ -2,18 +2,29 @@
 //! and words that name a file, an import's settings, and the refusals with their exit statuses.
 #![tactic(auto)]
 
+mod columns;
 mod file_word;
 mod laws;
+mod limits;
 mod name;
 mod pixel;
+mod pixels;
 mod refusal;
 mod row;
 mod settings;
 
+pub use columns::{RowFault, column_names, row_of, rows_of_values};
 pub use file_word::{FileWord, is_csv_name, is_file_word, is_parquet_name};
-pub use laws::{order_of_rows, partitions_of_rows, rows_in_a_pixel};
+pub use laws::{
+    order_of_rows, partitions_of_rows, ranges_of_pixels, rows_in_a_pixel, sorted_rows_of_lists,
+};
+pub use limits::{
+    HIGHEST_MARGIN_ORDER, HIGHEST_ORDER, MOST_BYTES, MOST_IN_PARTITION, MOST_INPUTS,
+    MOST_PARTITIONS, MOST_ROWS,
+};
 pub use name::Name;
-pub use pixel::Pixel;
+pub use pixel::{Pixel, pixels_of_order};
+pub use pixels::are_disjoint_in_order;
 pub use refusal::{JobFile, Refusal};
-pub use row::Row;
-pub use settings::{MOST_PARTITIONS, Settings};
+pub use row::{Row, compare_rows, sort_rows};
+pub use settings::Settings;

@@ -1,6 +1,8 @@
 ghost use Rattle.std.specs.Prelude.{◌≡◌};
 ghost use Rattle.hx_base.specs.Refusals.{status_of};
 
+use std::alloc::AllocError;
+
 /// A file that an import or a cross-match reads or writes. A number is that of its input or partition.
 #[derive(Clone, Copy, Debug, PartialEq, Eq)]
 pub enum JobFile {
@@ -81,6 +83,16 @@ pub enum Refusal {
     },
     /// The name has a catalogue that no journal speaks of.
     NameTaken,
+}
+
+impl From<AllocError> for Refusal {
+    ghost use Rattle.hx_base.specs.declared.refusal.Refusal.TheVariants.{Memory};
+
+    ghost from_gives = { λ _ refusal. refusal ≡ Memory };
+
+    fn from(_error: AllocError) -> Refusal {
+        Refusal::Memory
+    }
 }
 
 impl Refusal {

@@ -1,8 +1,11 @@
 ghost use Rattle.std.specs.Prelude.{◌≡◌, ◌↔◌, IsTrue};
 ghost use Rattle.std.specs.Prelude.{◌*◌, ◌+◌, ◌^◌, ◌<◌, ◌≤◌};
-ghost use Rattle.hx_base.specs.Rows.{IsGood, row_cmp, square};
+ghost use Rattle.hx_base.specs.Rows.{IsGood, row_cmp, sorted_rows, square, tolerance, unit};
 
-/// A row of a catalogue: the place of a source on the sky, its number, and its unit vector.
+use crate::pixel::pixels_of_order;
+use std::cmp::Ordering;
+
+/// A row of a catalogue: the position of a source on the sky, its number, and its unit vector.
 ///
 /// Rows are ordered by `hp`, then `id`, `x`, `y` and `z`.
 #[derive(Clone, Copy, Debug, PartialEq, Eq, PartialOrd, Ord)]
@@ -16,9 +19,6 @@ pub struct Row {
     pub y: i32,
     pub z: i32,
 }
-
-// One more than the greatest pixel of order 29: twelve faces of 4^29.
-const PIXELS_29: u64 = 12 << 58;
 
 // The squared length of a unit vector, in 10^-18.
 const UNIT: u64 = 1_000_000_000_000_000_000;
@@ -35,7 +35,7 @@ fn squared(a: i32) -> u64
 
 fn is_about_one(squared_length: u64) -> bool
     requires { squared_length ≤ 3 * 2 ^ 62 }
-    ensures { IsTrue result ↔ ((squared_length ≤ 10 ^ 18 + 4 * 10 ^ 9) × (10 ^ 18 ≤ squared_length + 4 * 10 ^ 9)) }
+    ensures { IsTrue result ↔ ((squared_length ≤ unit + tolerance) × (unit ≤ squared_length + tolerance)) }
 {
     squared_length <= UNIT + TOLERANCE && UNIT <= squared_length + TOLERANCE
 }
@@ -46,24 +46,30 @@ impl Row {
         ensures { IsTrue result ↔ IsGood self.now }
     {
         let squared_length = squared(self.x) + squared(self.y) + squared(self.z);
-        self.hp < PIXELS_29 && is_about_one(squared_length)
+        self.hp < pixels_of_order(29) && is_about_one(squared_length)
     }
+}
+
+/// How a row compares with another: by `hp`, then `id`, `x`, `y` and `z`. It is the order of `Row` itself.
+pub fn compare_rows(a: &Row, b: &Row) -> Ordering
+    ensures { result ≡ row_cmp a.now b.now }
+{
+    a.cmp(b)
+}
+
+/// Puts rows in ascending order, each as often as it was there. It takes no memory.
+pub fn sort_rows(rows: &mut [Row])
+    ensures { rows.new ≡ sorted_rows rows.old }
+{
+    rows.sort_unstable();
 }
 
 #[cfg(test)]
 mod tests {
     use super::*;
-    use std::cmp::Ordering;
 
     fn at(hp: u64, x: i32, y: i32, z: i32) -> Row {
         Row { hp, id: 1, x, y, z }
-    }
-
-    // The derived order is that of the definition.
-    fn compared(a: &Row, b: &Row) -> Ordering
-        ensures { result ≡ row_cmp a.now b.now }
-    {
-        a.cmp(b)
     }
 
     #[test]
@@ -95,8 +101,18 @@ mod tests {
             at(1, 0, 0, 0),
         ];
         for i in 0..4 {
-            assert_eq!(rt; compared(&rows[i], &rows[i + 1]), Ordering::Less);
-            assert_eq!(rt; compared(&rows[i + 1], &rows[i]), Ordering::Greater);
+            assert_eq!(rt; compare_rows(&rows[i], &rows[i + 1]), Ordering::Less);
+            assert_eq!(rt; compare_rows(&rows[i + 1], &rows[i]), Ordering::Greater);
         }
+    }
+
+    #[test]
+    fn rows_are_sorted(rt: HostRuntime) {
+        let (a, b, c) = (at(0, 6, 0, 9), at(0, 6, 1, 0), at(1, 0, 0, 0));
+        let first = Row { id: -1, ..a };
+        let mut rows = [c, b, a, first, b];
+        sort_rows(&mut rows);
+        assert_eq!(rt; rows, [first, a, b, b, c]);
+        sort_rows(&mut []);
     }
 }

@@ -2,6 +2,7 @@ ghost use Rattle.std.specs.Prelude.{◌↔◌, IsTrue};
 ghost use Rattle.hx_base.specs.Limits.{FitsLimits};
 
 use crate::Name;
+use crate::limits::{HIGHEST_MARGIN_ORDER, HIGHEST_ORDER, MOST_IN_PARTITION};
 
 /// What an import is asked for: its name and how its rows are cut into partitions.
 #[derive(Drop)]
@@ -18,15 +19,6 @@ pub struct Settings {
     pub margin_order: u8,
 }
 
-/// A catalogue has at most so many partitions.
-pub const MOST_PARTITIONS: usize = 100_000;
-
-const HIGHEST_ORDER: u8 = 20;
-
-const HIGHEST_MARGIN_ORDER: u8 = 24;
-
-const HIGHEST_THRESHOLD: u64 = 1_000_000;
-
 impl Settings {
     /// Whether the orders and the threshold are within their limits: `lowest <= highest <= 20`, `highest <
     /// margin_order <= 24`, and a threshold from 1 to 1000000.
@@ -35,7 +27,7 @@ impl Settings {
     {
         let orders = self.lowest <= self.highest && self.highest <= HIGHEST_ORDER;
         let margin = self.highest < self.margin_order && self.margin_order <= HIGHEST_MARGIN_ORDER;
-        let threshold = 1 <= self.threshold && self.threshold <= HIGHEST_THRESHOLD;
+        let threshold = 1 <= self.threshold && self.threshold <= MOST_IN_PARTITION;
         orders && margin && threshold
     }
 }

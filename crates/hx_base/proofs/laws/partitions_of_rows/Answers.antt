@@ -1,7 +1,7 @@
 use Rattle.std.proofs.Common.{◌≡◌, ◌<◌, ◌≤◌, ◌==◌, ◌∷◌, [], ℕ, List, Bool, true, zero, suc, filter, length, get_or, arith, inl, inr}
 use Rattle.std.proofs.lemmas.Bool.{cases_Bool, eq-eqb}
 use Rattle.std.proofs.lemmas.Bool.Decides.{Decides-eqb}
-use Rattle.hx_base.specs.Pixels.{HoldsPlace, count_in, pixel_of}
+use Rattle.hx_base.specs.Pixels.{HoldsPosition, count_in, pixel_of}
 use Rattle.hx_base.specs.declared.pixel.Pixel.{Pixel}
 use Rattle.hx_base.specs.declared.row.Row.{Row}
 use Rattle.hx_base.proofs.Partitions.{IsMonotone, holders_one, holds_outer, in_a_partition, partitions_disjoint}
@@ -43,7 +43,7 @@ unfolding test
 returns-clause-each_once c = λ rows lowest highest threshold pixels good orders within fits parts. λ k d inside.
     let count = λ (pixel : Pixel). count_in pixel rows in
     let place = (get_or rows k d).hp in
-    let some = λ (pixel : Pixel). λ (holds : HoldsPlace pixel place). counted (test pixel) rows k d inside (eq-eqb (pixel_of pixel.order place) pixel.number holds) in
+    let some = λ (pixel : Pixel). λ (holds : HoldsPosition pixel place). counted (test pixel) rows k d inside (eq-eqb (pixel_of pixel.order place) pixel.number holds) in
     let found = in_a_partition count lowest highest threshold place orders within (good k d inside) some fits in
     let apart = partitions_disjoint count lowest highest threshold (rows_grow highest rows) pixels parts in
     holders_one place pixels found.0 apart.disjoint ((parts.exact found.0).1 found.1) found.2
