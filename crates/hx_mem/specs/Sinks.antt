@@ -1,5 +1,6 @@
 -- A sink in memory.
-use Rattle.std.specs.Prelude.{◌-◌, ◌+◌, ◌++◌, ◌||◌, ℕ, List, Bool, length, take, nat_lt, if◌then◌else◌}
+use Rattle.std.specs.Prelude.{◌-◌, ◌+◌, ◌++◌, ◌||◌, ℕ, List, Bool, length, take, nat_lt, if◌then◌else◌, Some}
+use Rattle.hx_outside.specs.Sinks.{SinkMembers}
 use Rattle.hx_mem.specs.Calls.{one_more, one_more_if, is_named}
 
 -- how many bytes fit, those that were written, the numbers of the calls that fail, the number of the next call,
@@ -10,6 +11,10 @@ pub record Receiver : Type 0 where
   pub named : List ℕ
   pub calls : ℕ
   pub faults : ℕ
+
+-- it tells all that was written
+abbrev pub mem_sink : SinkMembers Receiver
+mem_sink = record { written = λ sink. Some sink.written; faults = λ sink. sink.faults }
 
 -- what a write adds: what fits of the bytes, or nothing where the call's number was named
 abbrev pub added : Receiver → List ℕ → List ℕ

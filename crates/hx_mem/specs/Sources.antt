@@ -1,5 +1,8 @@
 -- A source in memory.
-use Rattle.std.specs.Prelude.{◌≡◌, ◌-◌, ◌<◌, ◌^◌, ℕ, List, [], length, min, take, drop}
+use Rattle.std.specs.Prelude.{◌≡◌, ◌-◌, ◌<◌, ◌^◌, ℕ, List, [], length, min, take, drop, Some}
+use Rattle.std.proofs.Common.{subst}
+use Rattle.std.proofs.lemmas.Option.{same_Some}
+use Rattle.hx_outside.specs.Sources.{SourceMembers}
 use Rattle.hx_mem.specs.Calls.{one_more, one_more_if, is_named}
 
 -- bytes whose number a u64 holds
@@ -15,6 +18,15 @@ pub record Memory : Type 0 where
   pub named : List ℕ
   pub calls : ℕ
   pub faults : ℕ
+
+-- it tells all that it holds
+abbrev pub mem_source : SourceMembers Memory
+mem_source = record {
+  told = λ memory. Some memory.content.bytes;
+  label = λ memory. memory.name;
+  faults = λ memory. memory.faults;
+  short = λ memory bytes told. subst (λ (held : List ℕ). length held < 2 ^ 64) (same_Some memory.content.bytes bytes told) memory.content.short;
+}
 
 -- a source as it begins: no call was made, and none is to fail
 pub record IsFresh (name bytes : List ℕ) (memory : Memory) : Type 0 where

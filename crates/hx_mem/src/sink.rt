@@ -1,7 +1,7 @@
 ghost use Rattle.std.specs.Prelude.{◌≡◌, ◌≤◌, ◌<◌, ◌+◌, ◌++◌, ◌↔◌, ◌⊎◌, [], length, vec_len, vec_capacity, IfOk, IsErr, OnOk, OnErr, Contains};
 ghost use Rattle.hx_outside.specs.Faults.{HasCause};
 ghost use Rattle.hx_outside.specs.Sinks.{Appends};
-ghost use Rattle.hx_mem.specs.Sinks.{after_write};
+ghost use Rattle.hx_mem.specs.Sinks.{after_write, mem_sink};
 
 use crate::calls::Calls;
 use hx_outside::{Failed, Sink};
@@ -59,15 +59,11 @@ impl MemSink {
 }
 
 impl Sink for MemSink {
-    ghost use Rattle.std.specs.Prelude.{Some};
-
-    ghost written = { λ sink. Some sink.written };
-
-    ghost faults = { λ sink. sink.faults };
+    ghost sink = { mem_sink };
 
     fn write(&mut self, bytes: &[u8]) -> Result<(), Failed>
-        ensures appends { Appends (Some self.old.written) bytes.now (Some self.new.written) result }
-        ensures cause { HasCause self.old.faults self.new.faults result }
+        ensures appends { Appends (mem_sink.written self.old) bytes.now (mem_sink.written self.new) result }
+        ensures cause { HasCause mem_sink.faults self.old self.new result }
 
         // Exactly when it fails, and what it leaves.
         ensures fails { IsErr result ↔ (Contains self.old.named self.old.calls ⊎ self.old.room < length self.old.written + length bytes.now) }

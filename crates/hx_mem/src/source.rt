@@ -1,7 +1,7 @@
 ghost use Rattle.std.specs.Prelude.{◌≡◌, ◌<◌, ◌≤◌, ◌-◌, ◌^◌, ◌++◌, ◌↔◌, length, min, drop, IfOk, IsTrue, IsErr, OnOk, OnErr, Contains};
 ghost use Rattle.hx_outside.specs.Faults.{HasCause};
-ghost use Rattle.hx_outside.specs.Sources.{GivesLength, Gives};
-ghost use Rattle.hx_mem.specs.Sources.{IsFresh, after_call, given};
+ghost use Rattle.hx_outside.specs.Sources.{GivesLength, Gives, SameSource};
+ghost use Rattle.hx_mem.specs.Sources.{IsFresh, after_call, given, mem_source};
 
 use crate::calls::Calls;
 use crate::content::Content;
@@ -61,16 +61,7 @@ impl MemSource {
 }
 
 impl Source for MemSource {
-    ghost use Rattle.std.specs.Prelude.{Some};
-    ghost use Rattle.std.proofs.Common.{rules};
-
-    ghost told = { λ memory. Some memory.content.bytes };
-
-    ghost faults = { λ memory. memory.faults };
-
-    ghost label = { λ memory. memory.name };
-
-    ghost short = { Prim.search rules };
+    ghost source = { mem_source };
 
     fn name(&self) -> &str
         ensures { result.now ≡ self.now.name }
@@ -79,10 +70,9 @@ impl Source for MemSource {
     }
 
     fn len(&mut self) -> Result<u64, Failed>
-        ensures length { GivesLength (Some self.old.content.bytes) result }
-        ensures same { self.new.content.bytes ≡ self.old.content.bytes }
-        ensures name { self.new.name ≡ self.old.name }
-        ensures cause { HasCause self.old.faults self.new.faults result }
+        ensures length { GivesLength (mem_source.told self.old) result }
+        ensures same { SameSource mem_source self.old self.new }
+        ensures cause { HasCause mem_source.faults self.old self.new result }
 
         // Exactly when it fails, and what it leaves.
         ensures fails { IsErr result ↔ Contains self.old.named self.old.calls }
@@ -97,10 +87,9 @@ impl Source for MemSource {
 
     fn read_at(&mut self, at: u64, buf: &mut [u8]) -> Result<usize, Failed>
         ensures bound { IfOk result (λ count. count ≤ length buf.old) }
-        ensures bytes { Gives (Some self.old.content.bytes) at (length buf.old) buf.new result }
-        ensures same { self.new.content.bytes ≡ self.old.content.bytes }
-        ensures name { self.new.name ≡ self.old.name }
-        ensures cause { HasCause self.old.faults self.new.faults result }
+        ensures bytes { Gives (mem_source.told self.old) at (length buf.old) buf.new result }
+        ensures same { SameSource mem_source self.old self.new }
+        ensures cause { HasCause mem_source.faults self.old self.new result }
 
         // Exactly when it fails, what it gives, and what it leaves.
         ensures fails { IsErr result ↔ Contains self.old.named self.old.calls }

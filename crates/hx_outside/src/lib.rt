@@ -1,5 +1,5 @@
-//! The world outside as traits: sources of bytes, a store of files, and a sink. Each counts its faults.
-//! An object may tell what it holds, and the clauses on content speak of those that do.
+//! The world outside as traits: sources of bytes, a store of files, and a sink. Each counts its faults, and its count
+//! never falls. An object may tell what it holds, and the clauses on content speak of those that do.
 #![tactic(auto)]
 
 mod nothing;

@@ -4,7 +4,7 @@ ghost use Rattle.hx_outside.specs.Faults.{HasStoreCause};
 /// Why a call of a store did not succeed.
 #[derive(Clone, Copy, Debug, PartialEq, Eq)]
 pub enum StoreError {
-    /// The store failed, and its count of faults rose.
+    /// The store failed, and its count of faults rose, or stands at 2^64 - 1 or above.
     Failed,
     /// Memory ran out, and nothing changed.
     Memory,
@@ -12,7 +12,7 @@ pub enum StoreError {
 
 /// A folder of files by name.
 pub trait Store: Drop {
-    /// How often it has failed. The count stands still at 2^64 - 1.
+    /// How often it has failed.
     ghost faults: { Self → ℕ };
 
     /// The bytes of a file; None where there is none of that name.
