@@ -12,7 +12,7 @@ use Rattle.hx_hist.specs.declared.hist.Pair.{Pair}
 use Rattle.hx_hist.proofs.Pairs.{filter_none, filter_all}
 use Rattle.hx_base.proofs.Powers.{four_pos, shift_fits}
 
--- a place in the list: the pixels before it are below one, and those from it on are not
+-- an index in the list: the pixels before it are below one, and those from it on are not
 pub record Parts (pixel i : ℕ) (xs : List Pair) : Type 0 where
   pub within : i ≤ length xs
   pub before : AllWithin (λ pair. pair.pixel < pixel) xs 0 i

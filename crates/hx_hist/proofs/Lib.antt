@@ -1,4 +1,9 @@
 pub mod Pairs
+pub mod Counts
 pub mod Children
 pub mod Rows
 pub mod Totals
+pub mod Tables
+pub mod RowPixels
+pub mod Tallies
+pub mod Merging

@@ -1,15 +1,18 @@
 -- Counts of lists of pairs, and what an edit changes of them.
-use Rattle.std.proofs.Common.{◌≡◌, ◌≢◌, ◌∙◌, ◌+◌, ◌-◌, ◌*◌, ◌^◌, ◌<◌, ◌≤◌, ◌∷◌, ◌==◌, [], ℕ, List, Bool, true, false, length, refl, sym, ap, arith, inl, inr, if◌then◌else◌, get_or, set, take, drop, subst}
-use Rattle.std.specs.List.{All, AllByRecursion, AllPairs, AllWithin, filter, insert, sum_by}
-use Rattle.std.specs.List.Sorted.{IsNonDecreasingBy}
-use Rattle.std.proofs.lemmas.Bool.{cases_eq, cases_lt, cases_order}
+use Rattle.std.proofs.Common.{◌≡◌, ◌∙◌, ◌+◌, ◌-◌, ◌*◌, ◌^◌, ◌<◌, ◌≤◌, ◌∷◌, ◌==◌, [], ℕ, List, Bool, true, false, length, refl, sym, ap, arith, inl, inr, if◌then◌else◌, get_or, set, take, drop, subst}
+use Rattle.std.specs.List.{All, AllByRecursion, AllPairs, filter, insert, sum_by}
+use Rattle.std.proofs.lemmas.Bool.{cases_eq, cases_lt}
 use Rattle.std.proofs.lemmas.Bool.Decides.{nat_tests}
 use Rattle.std.proofs.lemmas.List.{get_or-set_same, get_or-set_other, get_or_default, length-set}
-use Rattle.std.proofs.lemmas.List.Edits.{length-insert, get_or-insert_below, get_or-insert_at, get_or-insert_above}
 use Rattle.std.proofs.lemmas.List.Elements.{All-set, All-append, All-take, All-drop, All-cons, recursion_from_All}
 use Rattle.std.proofs.lemmas.List.Sums.{sum_by-cons, sum_by-set, sum_by-insert, sum_by_more_le, sum_by-take-le}
+use Rattle.hx_base.proofs.Ascending.{IsIndexFor, ascends-insert}
 use Rattle.hx_hist.specs.Histograms.{Adds, IsHistogram, count_at, total_of}
 use Rattle.hx_hist.specs.declared.hist.Pair.{Pair}
+
+-- what the pairs of a histogram ascend by
+abbrev pub pixel_key : Pair → ℕ
+pixel_key pair = pair.pixel
 
 -- a sum over what a test keeps
 kept : {X : Type 0} (f : X → ℕ) (x : X) (ys : List X) (b : Bool) → sum_by f (if b then x ∷ ys else ys) ≡ (if b then f x else 0) + sum_by f ys
@@ -35,6 +38,11 @@ filter_none test xs all = none_pass test xs (recursion_from_All (λ x. test x �
 
 pub filter_all : {X : Type 0} (test : X → Bool) (xs : List X) → All (λ x. test x ≡ true) xs → filter test xs ≡ xs
 filter_all test xs all = all_pass test xs (recursion_from_All (λ x. test x ≡ true) xs all)
+
+-- a filter goes by what its test says
+pub same_filter : {X : Type 0} (p q : X → Bool) (xs : List X) → ((x : X) → p x ≡ q x) → filter p xs ≡ filter q xs
+same_filter p q [] h = refl
+same_filter p q (x ∷ xs) h = rw (h x, same_filter p q xs h) refl
 
 -- what a pair adds to the count of a pixel
 abbrev pub share : ℕ → Pair → ℕ
@@ -100,43 +108,18 @@ insert_counts pixel count xs i p =
 All-insert : {X : Type 0} (P : X → Type 0) (xs : List X) (i : ℕ) (y : X) → P y → All P xs → All P (insert xs i y)
 All-insert P xs i y here all = All-append P (take i xs) (y ∷ drop i xs) (All-take P i xs all) (All-cons P y (drop i xs) here (All-drop P i xs all))
 
--- a pixel's place: the pairs before it are below the pixel, and those from it on are above
-pub record IsPlace (pixel i : ℕ) (xs : List Pair) : Type 0 where
-  pub within : i ≤ length xs
-  pub before : AllWithin (λ pair. pair.pixel < pixel) xs 0 i
-  pub after : AllWithin (λ pair. pixel < pair.pixel) xs i (length xs)
-
-above : (xs : List Pair) (i : ℕ) (y d : Pair) (k : ℕ) → i < k → i ≤ length xs → get_or (insert xs i y) k d ≡ get_or xs (k - 1) d
-above xs i y d k past within =
-    let e : k ≡ k - 1 + 1 = omega arith in
-    ap (λ j. get_or (insert xs i y) j d) e ∙ get_or-insert_above xs i y d (k - 1) (omega arith) within
-
-insert_ascending : (y : Pair) (xs : List Pair) (i : ℕ) → IsPlace y.pixel i xs → AllPairs (λ a b. a.pixel < b.pixel) xs → AllPairs (λ a b. a.pixel < b.pixel) (insert xs i y)
-insert_ascending y xs i place h = λ k m d lo hi.
-    let longer = length-insert xs i y place.within in
-    elim (cases_order k i) [
-      | inl at ↦ rw (at, get_or-insert_at xs i y d place.within, above xs i y d m (omega arith) place.within) (place.after (m - 1) d (omega arith) (omega arith))
-      | inr (inl low) ↦
-          elim (cases_order m i) [
-            | inl at ↦ rw (at, get_or-insert_below xs i y d k low place.within, get_or-insert_at xs i y d place.within) (place.before k d (omega arith) low)
-            | inr (inl low2) ↦ rw (get_or-insert_below xs i y d k low place.within, get_or-insert_below xs i y d m low2 place.within) (h k m d lo (omega arith))
-            | inr (inr high) ↦ rw (get_or-insert_below xs i y d k low place.within, above xs i y d m high place.within) (h k (m - 1) d (omega arith) (omega arith))
-          ]
-      | inr (inr high) ↦ rw (above xs i y d k high place.within, above xs i y d m (omega arith) place.within) (h (k - 1) (m - 1) d (omega arith) (omega arith))
-    ]
-
-insert_histogram : (y : Pair) (xs : List Pair) (i order : ℕ) → 0 < y.count → IsPlace y.pixel i xs → y.pixel < 12 * 4 ^ order → IsHistogram order xs → IsHistogram order (insert xs i y)
-insert_histogram y xs i order some place below h = record {
-  ascending = insert_ascending y xs i place h.ascending;
+insert_histogram : (y : Pair) (xs : List Pair) (i order : ℕ) → 0 < y.count → IsIndexFor pixel_key y.pixel i xs → y.pixel < 12 * 4 ^ order → IsHistogram order xs → IsHistogram order (insert xs i y)
+insert_histogram y xs i order some here below h = record {
+  ascending = ascends-insert pixel_key y i xs here h.ascending;
   counted = All-insert (λ pair. 0 < pair.count) xs i y some h.counted;
   range = All-insert (λ pair. pair.pixel < 12 * 4 ^ order) xs i y below h.range;
 }
 
-pub adds_insert : (pixel count : ℕ) (xs : List Pair) (i : ℕ) → 0 < count → IsPlace pixel i xs → Adds pixel count xs (insert xs i (record { pixel = pixel; count = count }))
-adds_insert pixel count xs i some place = record {
+pub adds_insert : (pixel count : ℕ) (xs : List Pair) (i : ℕ) → 0 < count → IsIndexFor pixel_key pixel i xs → Adds pixel count xs (insert xs i (record { pixel = pixel; count = count }))
+adds_insert pixel count xs i some here = record {
   counts = insert_counts pixel count xs i;
   total = sum_by-insert (λ (pair : Pair). pair.count) xs i (record { pixel = pixel; count = count });
-  histogram = λ order below h. insert_histogram (record { pixel = pixel; count = count }) xs i order some place below h;
+  histogram = λ order below h. insert_histogram (record { pixel = pixel; count = count }) xs i order some here below h;
 }
 
 -- before the last pair
@@ -158,36 +141,9 @@ below_after_last xs last pixel up at lt k d within =
           omega (arith, e)
     ]
 
--- pairs that ascend by pixel do not descend
-pub up_to : (xs : List Pair) → AllPairs (λ a b. a.pixel < b.pixel) xs → IsNonDecreasingBy (λ (pair : Pair). pair.pixel) xs
-up_to xs up = λ i j d le within.
-    elim (cases_eq i j) [
-      | inl h ↦ rw h (omega arith)
-      | inr h ↦ omega (arith, up i j d (omega arith) within)
-    ]
-
 -- as the code reads the pair, first for its pixel and then for its count
 pub adds_read : (pixel count : ℕ) (xs : List Pair) (i : ℕ) (x y : Pair) → i < length xs → x ≡ get_or xs i x → y ≡ get_or xs i y → y.pixel ≡ pixel → Adds pixel count xs (set xs i (more_of x count))
 adds_read pixel count xs i x y within at_x at_y e =
     let same : x.pixel ≡ pixel = ap (λ (pair : Pair). pair.pixel) (at_x ∙ get_or_default xs i x y within ∙ sym at_y) ∙ e in
     let here = subst (λ (z : Pair). Adds z.pixel count xs (set xs i (more_of z count))) (sym at_x) (adds_bump count xs i x within) in
     subst (λ (p : ℕ). Adds p count xs (set xs i (more_of x count))) same here
-
--- a place whose pair is of another pixel, or that is the end
-pub is_place : (pixel i : ℕ) (xs : List Pair) → AllPairs (λ a b. a.pixel < b.pixel) xs → i ≤ length xs → AllWithin (λ pair. pair.pixel < pixel) xs 0 i → AllWithin (λ pair. pixel ≤ pair.pixel) xs i (length xs)
-    → (i < length xs → (d : Pair) → (get_or xs i d).pixel ≢ pixel) → IsPlace pixel i xs
-is_place pixel i xs up within before after other = record {
-  within = within;
-  before = before;
-  after = λ k d lo hi.
-      elim (cases_eq k i) [
-        | inl at ↦ let least = after k d lo hi in let ne = other (omega arith) d in rw at (let le : pixel ≤ (get_or xs i d).pixel = rw at at least in omega arith)
-        | inr off ↦ let first = after i d (omega arith) (omega arith) in let more = up i k d (omega arith) hi in omega arith
-      ];
-}
-
--- a merge stays below the two totals
-pub merge_room : (left right done : List Pair) (i j : ℕ) (d : Pair) → total_of done ≡ total_of (take i left) + total_of (take j right) → total_of left + total_of right < 2 ^ 64 → i < length left → total_of done + (get_or left i d).count < 2 ^ 64
-merge_room left right done i j d so_far total within =
-    let count : Pair → ℕ = λ pair. pair.count in
-    omega (arith, sum_by_more_le count left i d within, sum_by-take-le count right j)

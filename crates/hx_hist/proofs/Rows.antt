@@ -1,5 +1,5 @@
 -- A histogram of rows has in each pixel as many as the rows do.
-use Rattle.std.proofs.Common.{◌≡◌, ◌∙◌, ◌+◌, ◌-◌, ◌*◌, ◌/◌, ◌^◌, ◌<◌, ◌≤◌, ◌∷◌, ◌==◌, [], ℕ, List, Bool, zero, suc, length, refl, sym, ap, arith, inl, inr, ◌⊎◌, if◌then◌else◌}
+use Rattle.std.proofs.Common.{◌≡◌, ◌∙◌, ◌+◌, ◌-◌, ◌*◌, ◌/◌, ◌^◌, ◌<◌, ◌≤◌, ◌∷◌, ◌==◌, [], ℕ, List, zero, suc, length, refl, sym, ap, arith, inl, inr, ◌⊎◌, if◌then◌else◌}
 use Rattle.std.specs.List.{filter, sum_by}
 use Rattle.std.proofs.lemmas.Bool.{cases_eq, cases_lt, eq-eqb, ne_eqb}
 use Rattle.std.proofs.lemmas.List.Sums.{sum_by-cons}
@@ -11,7 +11,7 @@ use Rattle.hx_base.proofs.Partitions.{Agree, up_again}
 use Rattle.hx_base.proofs.Powers.{four_pos}
 use Rattle.hx_hist.specs.Histograms.{count_at, total_in}
 use Rattle.hx_hist.specs.declared.hist.Pair.{Pair}
-use Rattle.hx_hist.proofs.Pairs.{sum_by-filter}
+use Rattle.hx_hist.proofs.Pairs.{same_filter, sum_by-filter}
 
 -- the sum of f over the first numbers from a on
 abbrev over : (ℕ → ℕ) → ℕ → ℕ → ℕ
@@ -99,10 +99,6 @@ module _ {X : Type 0} (f : X → ℕ) (key : X → ℕ) (number d : ℕ) (some :
 ones : {X : Type 0} (xs : List X) → sum_by (λ x. 1) xs ≡ length xs
 ones [] = refl
 ones {X} (x ∷ xs) = let e = sum_by-cons (λ (y : X). 1) x xs in omega (arith, e, ones xs)
-
-same_filter : {X : Type 0} (p q : X → Bool) (xs : List X) → ((x : X) → p x ≡ q x) → filter p xs ≡ filter q xs
-same_filter p q [] h = refl
-same_filter p q (x ∷ xs) h = rw (h x, same_filter p q xs h) refl
 
 -- the rows of a finer order's pixels, counted by pixel
 row_groups : (order : ℕ) (pixel : Pixel) (rows : List Row) → order ≤ 29 → pixel.order ≤ order

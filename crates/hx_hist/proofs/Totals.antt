@@ -1,7 +1,7 @@
 -- Totals of pixels over parts of a list of pairs.
-use Rattle.std.proofs.Common.{◌≡◌, ◌∙◌, ◌+◌, ◌-◌, ◌/◌, ◌^◌, ◌<◌, ◌≤◌, ◌∷◌, ◌++◌, ◌==◌, [], ℕ, List, Bool, true, zero, suc, length, refl, sym, ap, arith, inl, inr, get_or}
+use Rattle.std.proofs.Common.{◌≡◌, ◌∙◌, ◌+◌, ◌-◌, ◌/◌, ◌^◌, ◌<◌, ◌≤◌, ◌∷◌, ◌++◌, ◌==◌, [], ℕ, List, Bool, true, length, refl, sym, ap, arith, inl, inr, get_or}
 use Rattle.std.specs.List.{All, AllPairs, filter, sum_by}
-use Rattle.std.proofs.lemmas.Bool.{cases_Bool, eq-eqb, ne_eqb}
+use Rattle.std.proofs.lemmas.Bool.{cases_Bool, eq-eqb}
 use Rattle.std.proofs.lemmas.Bool.Decides.{Decides-eqb}
 use Rattle.std.proofs.lemmas.List.Elements.{filter-append}
 use Rattle.std.proofs.lemmas.List.Sums.{sum_by-append, sum_by-cons}
@@ -9,7 +9,8 @@ use Rattle.hx_base.specs.declared.pixel.Pixel.{Pixel}
 use Rattle.hx_base.proofs.Partitions.{IsMonotone, up_again}
 use Rattle.hx_hist.specs.Histograms.{total_in, total_of}
 use Rattle.hx_hist.specs.declared.hist.Pair.{Pair}
-use Rattle.hx_hist.proofs.Pairs.{filter_all, filter_none}
+use Rattle.hx_hist.proofs.Counts.{count_at_own, found}
+use Rattle.hx_hist.proofs.Pairs.{filter_all, same_filter}
 
 abbrev count_of : Pair → ℕ
 count_of pair = pair.count
@@ -21,14 +22,6 @@ total_in-append pixel order xs ys =
     ap (sum_by count_of) (filter-append test xs ys) ∙ sum_by-append count_of (filter test xs) (filter test ys)
 
 -- where there is a total, there is a pair
-found : (test : Pair → Bool) (xs : List Pair) → 1 ≤ sum_by count_of (filter test xs) → (k : ℕ) × (k < length xs) × ((d : Pair) → test (get_or xs k d) ≡ true)
-found test [] some = absurd (omega arith)
-found test (x ∷ xs) some =
-    elim (cases_Bool (test x)) [
-      | inl is ↦ (0, omega arith, λ d. is)
-      | inr not ↦ let rest = found test xs (rw not at some) in (suc rest.0, omega (arith, rest.1), rest.2)
-    ]
-
 pub pair_in : (pixel : Pixel) (order : ℕ) (xs : List Pair) → 1 ≤ total_in pixel order xs → (k : ℕ) × (k < length xs) × ((d : Pair) → (get_or xs k d).pixel / 4 ^ (order - pixel.order) ≡ pixel.number)
 pair_in pixel order xs some =
     let at = found (λ (pair : Pair). pair.pixel / 4 ^ (order - pixel.order) == pixel.number) xs some in
@@ -68,21 +61,9 @@ totals_grow order xs = record {
 }
 
 -- a pair's pixel has the pair's count, where the pairs ascend
-alone : (number : ℕ) (xs : List Pair) (k : ℕ) (d : Pair) → AllPairs (λ a b. a.pixel < b.pixel) xs → k < length xs → (get_or xs k d).pixel ≡ number
-    → sum_by count_of (filter (λ pair. pair.pixel / 1 == number) xs) ≡ (get_or xs k d).count
-alone number [] k d up within is = absurd (omega (arith, within))
-alone number (x ∷ xs) zero d up within is =
-    let test = λ (pair : Pair). pair.pixel / 1 == number in
-    let here : x.pixel / 1 ≡ number = omega (arith, is) in
-    let rest = filter_none test xs (λ j e inside. let more : x.pixel < (get_or xs j e).pixel = up 0 (suc j) e (omega arith) (omega (arith, inside)) in ne_eqb ((get_or xs j e).pixel / 1) number (λ same. omega (arith, is, more))) in
-    rw (eq-eqb (x.pixel / 1) number here, rest) (omega arith)
-alone number (x ∷ xs) (suc k) d up within is =
-    let less : x.pixel < (get_or xs k d).pixel = up 0 (suc k) d (omega arith) within in
-    let other : x.pixel / 1 ≡ number → ⊥ = λ e. omega (arith, less, is) in
-    rw (ne_eqb (x.pixel / 1) number other) (alone number xs k d (λ i j e lt inside. up (suc i) (suc j) e (omega arith) (omega (arith, inside))) (omega (arith, within)) is)
-
 pub count_is_total : (order : ℕ) (xs : List Pair) (k : ℕ) (d : Pair) → AllPairs (λ a b. a.pixel < b.pixel) xs → k < length xs
     → total_in (record { order = order; number = (get_or xs k d).pixel }) order xs ≡ (get_or xs k d).count
 count_is_total order xs k d up within =
+    let pixel = (get_or xs k d).pixel in
     let e : order - order ≡ 0 = omega arith in
-    rw e (alone (get_or xs k d).pixel xs k d up within refl)
+    rw e (ap (sum_by count_of) (same_filter (λ (pair : Pair). pair.pixel / 1 == pixel) (λ (pair : Pair). pair.pixel == pixel) xs (λ pair. ap (λ (n : ℕ). n == pixel) (omega arith))) ∙ count_at_own xs k d up within)

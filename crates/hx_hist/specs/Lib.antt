@@ -1,1 +1,3 @@
 pub mod Histograms
+pub mod Differences
+pub mod Tallies

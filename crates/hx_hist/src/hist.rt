@@ -1,17 +1,21 @@
 //! Counts of rows by pixel.
-ghost use Rattle.std.specs.Prelude.{◌≡◌, ◌==◌, ◌+◌, ◌*◌, ◌^◌, ◌<◌, ◌≤◌, ℕ, [], if◌then◌else◌, IfOk, OnOk, OnErr};
+ghost use Rattle.std.specs.Prelude.{◌≡◌, ◌↔◌, ◌==◌, ◌+◌, ◌*◌, ◌^◌, ◌<◌, ◌≤◌, ◌∷◌, ◌++◌, ℕ, [], All, if◌then◌else◌, IfOk, IfNone, IfSome, IsNone, OnOk, OnErr};
 ghost use Rattle.hx_hist.specs.Histograms.{count_at, total_of, total_in, IsHistogram};
+ghost use Rattle.hx_hist.specs.Differences.{IsFirstDifference};
 
 mod children;
+mod difference;
+mod index;
 mod merging;
-mod place;
 #[cfg(test)]
 mod tests;
 
 use children::total_of_children;
+pub use difference::Difference;
+use difference::{common_pairs, count_from, least_from};
 use hx_base::Pixel;
+use index::add_to;
 use merging::merged;
-use place::add_to;
 use std::alloc::{AllocError, Global};
 use std::marker::Model;
 
@@ -92,6 +96,21 @@ impl Hist {
         add_to(&mut self.pairs, pixel, count)
     }
 
+    /// Puts a pair behind all others, in constant time.
+    pub(crate) fn push(&mut self, pair: Pair) -> Result<(), AllocError>
+        requires below { All (λ other. other.pixel < pair.pixel) self.old.pairs }
+        requires some { 0 < pair.count }
+        requires pixel { pair.pixel < 12 * 4 ^ self.old.order }
+        requires total { total_of self.old.pairs + pair.count < 2 ^ 64 }
+
+        ensures order { self.new.order ≡ self.old.order }
+        ensures pairs { OnOk result (self.new.pairs ≡ self.old.pairs ++ pair ∷ []) }
+        ensures err { OnErr result (self.new ≡ self.old) }
+    {
+        self.pairs.push(pair)?;
+        Ok(())
+    }
+
     /// Counts the rows of another histogram of the order too, in one pass over both.
     pub fn merge(&mut self, other: &Hist) -> Result<(), AllocError>
         requires order { self.old.order ≡ other.now.order }
@@ -103,7 +122,7 @@ impl Hist {
         ensures err { OnErr result (self.new ≡ self.old) }
     {
         let alloc = *self.pairs.allocator();
-        *self = merged(alloc, self, other)?;
+        *self = merged(alloc, self.order(), self.pairs(), other.pairs())?;
         Ok(())
     }
 
@@ -115,5 +134,24 @@ impl Hist {
     {
         let steps = self.order() - pixel.order;
         total_of_children(self.pairs(), steps, pixel.number)
+    }
+
+    /// The least pixel that this histogram and another of its order count differently, with both counts. It takes no
+    /// memory, and looks once at each pair.
+    pub fn first_difference(&self, other: &Hist) -> Option<Difference>
+        requires order { self.now.order ≡ other.now.order }
+        ensures none { IsNone result ↔ ((p : ℕ) → count_at p self.now.pairs ≡ count_at p other.now.pairs) }
+        ensures same { IfNone result (self.now.pairs ≡ other.now.pairs) }
+        ensures first { IfSome result (IsFirstDifference self.now.pairs other.now.pairs) }
+    {
+        let kept = self.pairs();
+        let found = other.pairs();
+        let index = common_pairs(kept, found);
+        let pixel = least_from(kept, found, index)?;
+        Some(Difference {
+            pixel,
+            kept: count_from(kept, index, pixel),
+            found: count_from(found, index, pixel),
+        })
     }
 }

@@ -3,7 +3,7 @@ ghost use Rattle.std.specs.Prelude.{◌≡◌, ◌==◌, ◌+◌, ◌*◌, ◌/�
 ghost use Rattle.hx_hist.specs.Histograms.{total_of};
 
 use super::Pair;
-use super::place::place_of;
+use super::index::index_of;
 
 // The sum of the counts.
 fn total(pairs: &[Pair]) -> u64
@@ -14,7 +14,7 @@ fn total(pairs: &[Pair]) -> u64
 }
 
 // From where to where the pairs stand whose pixels lie in a pixel, so many orders above.
-fn places_of_children(pairs: &[Pair], steps: u8, number: u64) -> (usize, usize)
+fn indices_of_children(pairs: &[Pair], steps: u8, number: u64) -> (usize, usize)
     requires ascending { AllPairs (λ a b. a.pixel < b.pixel) pairs.now }
     requires steps { steps ≤ 29 }
     requires range { (number + 1) * 4 ^ steps ≤ 12 * 4 ^ 29 }
@@ -22,8 +22,8 @@ fn places_of_children(pairs: &[Pair], steps: u8, number: u64) -> (usize, usize)
     ensures within { result.1 ≤ length pairs.now }
     ensures children { filter (λ pair. pair.pixel / 4 ^ steps == number) pairs.now ≡ slice_range pairs.now result.0 result.1 }
 {
-    let start = place_of(pairs, number << (2 * steps));
-    let end = place_of(pairs, (number + 1) << (2 * steps));
+    let start = index_of(pairs, number << (2 * steps));
+    let end = index_of(pairs, (number + 1) << (2 * steps));
     (start, end)
 }
 
@@ -35,6 +35,6 @@ pub fn total_of_children(pairs: &[Pair], steps: u8, number: u64) -> u64
     requires range { (number + 1) * 4 ^ steps ≤ 12 * 4 ^ 29 }
     ensures { result ≡ total_of (filter (λ pair. pair.pixel / 4 ^ steps == number) pairs.now) }
 {
-    let (start, end) = places_of_children(pairs, steps, number);
+    let (start, end) = indices_of_children(pairs, steps, number);
     total(&pairs[start..end])
 }

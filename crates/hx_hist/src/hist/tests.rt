@@ -1,7 +1,8 @@
 ghost use Rattle.std.specs.Prelude.{◌≡◌, ◌≤◌, ◌^◌, IfOk};
 ghost use Rattle.hx_hist.specs.Histograms.{total_of};
 
-use super::Hist;
+use super::{Difference, Hist};
+use crate::samples::next_random;
 use hx_base::Pixel;
 use std::alloc::{AllocError, Global};
 use std::process::Abort;
@@ -121,9 +122,51 @@ fn totals_are_those_of_the_children(rt: HostRuntime) -> Result<(), Fail> {
     Ok(())
 }
 
-// The next of a row of numbers below 2^31 that look random.
-fn next_random(number: u64) -> u64 {
-    (number % (1 << 31) * 1103515245 + 12345) % (1 << 31)
+fn check_difference(
+    rt: &impl Abort,
+    alloc: Global,
+    kept: &[(u64, u64)],
+    found: &[(u64, u64)],
+    wanted: Option<(u64, u64, u64)>,
+) -> Result<(), Fail> {
+    let hist = hist_of(alloc, kept)?;
+    let other = hist_of(alloc, found)?;
+    let wanted = wanted.map(|(pixel, kept, found)| Difference { pixel, kept, found });
+    assert!(rt; hist.first_difference(&other) == wanted);
+    Ok(())
+}
+
+#[test]
+fn equal_histograms_have_no_difference(rt: HostRuntime) -> Result<(), Fail> {
+    let alloc = rt.alloc();
+    check_difference(&rt, alloc, &[], &[], None)?;
+    check_difference(&rt, alloc, &[(3, 1)], &[(3, 1)], None)?;
+    check_difference(
+        &rt,
+        alloc,
+        &[(0, 1), (3, 2), (47, 9)],
+        &[(47, 9), (3, 2), (0, 1)],
+        None,
+    )
+}
+
+#[test]
+fn first_difference_is_the_least_pixel(rt: HostRuntime) -> Result<(), Fail> {
+    let alloc = rt.alloc();
+    check_difference(&rt, alloc, &[(1, 2)], &[(1, 3)], Some((1, 2, 3)))?;
+    let one = [(3, 1)];
+    let two = [(1, 2), (3, 1)];
+    let last = [(3, 1), (5, 4)];
+    check_difference(&rt, alloc, &two, &one, Some((1, 2, 0)))?;
+    check_difference(&rt, alloc, &one, &two, Some((1, 0, 2)))?;
+    check_difference(&rt, alloc, &last, &one, Some((5, 4, 0)))?;
+    check_difference(&rt, alloc, &one, &last, Some((5, 0, 4)))?;
+    check_difference(&rt, alloc, &[], &two, Some((1, 0, 2)))?;
+    check_difference(&rt, alloc, &two, &[], Some((1, 2, 0)))?;
+    let kept = [(0, 1), (2, 2), (5, 5), (9, 1)];
+    let found = [(0, 1), (3, 2), (5, 6)];
+    check_difference(&rt, alloc, &kept, &found, Some((2, 2, 0)))?;
+    check_difference(&rt, alloc, &found, &kept, Some((2, 0, 2)))
 }
 
 // So many pixels of order 1 that look random, each with a count below 8.

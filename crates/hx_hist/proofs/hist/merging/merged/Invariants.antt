@@ -1,15 +1,33 @@
-use Rattle.std.proofs.Common.{◌≡◌, ◌+◌, ◌-◌, ◌≤◌, ℕ, take, length}
-use Rattle.hx_hist.specs.Histograms.{count_at, total_of}
+use Rattle.std.proofs.Common.{◌≡◌, ◌+◌, ◌-◌, ◌<◌, ◌≤◌, length}
+use Rattle.hx_hist.proofs.Merging.{IsMerged}
 use Rattle.hx_hist.proofs.hist.merging.merged.Given as goal
 
 abbrev pub invariant-loop-i : goal.invariant-loop-i
 invariant-loop-i l = record {
-  order : l.all.order ≡ l.left.order;
-  left : l.i ≤ length l.lefts;
-  right : l.j ≤ length l.rights;
-  total : total_of l.all.pairs ≡ total_of (take l.i l.lefts) + total_of (take l.j l.rights);
-  counts : (p : ℕ) → count_at p l.all.pairs ≡ count_at p (take l.i l.lefts) + count_at p (take l.j l.rights);
+  order : l.all.order ≡ l.fn.order;
+  merged : IsMerged l.left l.right l.i l.j l.all.pairs;
 }
 
 abbrev pub decreases-loop-i : goal.decreases-loop-i
-decreases-loop-i l = (length l.lefts - l.i) + (length l.rights - l.j)
+decreases-loop-i l = (length l.left - l.i) + (length l.right - l.j)
+
+-- one list is used up
+abbrev pub invariant-loop-i-2 : goal.invariant-loop-i-2
+invariant-loop-i-2 l = record {
+  order : l.all.order ≡ l.fn.order;
+  merged : IsMerged l.left l.right l.i l.j l.all.pairs;
+  one_left : l.i < length l.left → length l.right ≤ l.j;
+}
+
+abbrev pub decreases-loop-i-2 : goal.decreases-loop-i-2
+decreases-loop-i-2 l = length l.left - l.i
+
+abbrev pub invariant-loop-j : goal.invariant-loop-j
+invariant-loop-j l = record {
+  order : l.all.order ≡ l.fn.order;
+  merged : IsMerged l.fn.left l.right l.i l.j l.all.pairs;
+  left_done : length l.fn.left ≤ l.i;
+}
+
+abbrev pub decreases-loop-j : goal.decreases-loop-j
+decreases-loop-j l = length l.right - l.j

@@ -7,7 +7,7 @@ use super::Pair;
 use std::alloc::AllocError;
 
 /// The index of the first pair whose pixel isn't below this one.
-pub fn place_of(pairs: &[Pair], pixel: u64) -> usize
+pub fn index_of(pairs: &[Pair], pixel: u64) -> usize
     requires { AllPairs (λ a b. a.pixel < b.pixel) pairs.now }
     ensures within { result ≤ length pairs.now }
     ensures before { AllWithin (λ pair. pair.pixel < pixel) pairs.now 0 result }
@@ -32,16 +32,16 @@ pub fn add_to(pairs: &mut Vec<Pair>, pixel: u64, count: u64) -> Result<(), Alloc
     ensures ok { OnOk result (Adds pixel count pairs.old.items pairs.new.items) }
     ensures err { OnErr result (pairs.new.items ≡ pairs.old.items) }
 {
-    let place = place_of(pairs, pixel);
-    if place == pairs.len() {
+    let index = index_of(pairs, pixel);
+    if index == pairs.len() {
         pairs.push(Pair { pixel, count })?;
         return Ok(());
     }
-    if pairs[place].pixel == pixel {
-        let pair = &mut pairs[place];
+    if pairs[index].pixel == pixel {
+        let pair = &mut pairs[index];
         pair.count += count;
         return Ok(());
     }
-    pairs.insert(place, Pair { pixel, count })?;
+    pairs.insert(index, Pair { pixel, count })?;
     Ok(())
 }
