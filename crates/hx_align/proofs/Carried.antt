@@ -1,15 +1,18 @@
--- What an alignment answers by some counts it answers by all that agree with them; and its answer is one.
-use Rattle.std.proofs.Common.{◌≡◌, ◌≢◌, ◌∙◌, ◌∷◌, ◌≤◌, [], ℕ, List, Result, Ok, Err, suc, length, refl, sym, ap, arith, get_or, inl, inr}
+-- Counts that agree have the same partitions and the same refusal; and an alignment's answer is one.
+use Rattle.std.proofs.Common.{◌≡◌, ◌≢◌, ◌∙◌, ◌∷◌, ◌≤◌, [], ℕ, List, Option, Some, Result, Ok, Err, suc, length, refl, sym, ap, arith, get_or, inl, inr}
 use Rattle.std.specs.List.{All}
 use Rattle.std.proofs.lemmas.Bool.{cases_order}
 use Rattle.std.proofs.lemmas.List.{get_or-map, length-map}
 use Rattle.hx_base.specs.declared.pixel.Pixel.{Pixel}
 use Rattle.hx_base.specs.Partitions.{IsFirstOverfull}
+use Rattle.hx_base.specs.declared.refusal.Refusal.{Refusal}
+use Rattle.hx_base.specs.declared.refusal.Refusal.TheVariants as refusal
 use Rattle.hx_base.proofs.Partitions.{Agree, first_overfull_over, nothing_overfull_over, partitions_over, partitions_unique}
-use Rattle.hx_align.specs.declared.plan.AlignRefusal.{AlignRefusal}
-use Rattle.hx_align.specs.declared.plan.AlignRefusal.TheVariants as refusal
+use Rattle.hx_align.specs.declared.refusal.AlignRefusal.{AlignRefusal}
+use Rattle.hx_align.specs.declared.refusal.AlignRefusal.TheVariants as own
 use Rattle.hx_align.specs.declared.plan.PlanRow.{PlanRow}
 use Rattle.hx_align.specs.Plans.{HasPartitions, IsAligned, IsPlanOf, pixels_of}
+use Rattle.hx_align.specs.Refusals.{IsCutRefusal}
 
 module _ (count other : Pixel → ℕ) (lowest highest threshold : ℕ) (within : highest ≤ 29) (agree : Agree highest count other) where
   pub plan_over : (rows : List PlanRow) → IsPlanOf count lowest highest threshold rows → IsPlanOf other lowest highest threshold rows
@@ -21,18 +24,12 @@ module _ (count other : Pixel → ℕ) (lowest highest threshold : ℕ) (within 
         h.counts k d lt ∙ agree.same row.pixel part.exists part.not_higher;
   }
 
-  pub aligned_over : (result : Result (List PlanRow) AlignRefusal) → IsAligned count lowest highest threshold result → IsAligned other lowest highest threshold result
-  aligned_over (Ok rows) h = (nothing_overfull_over count other lowest highest threshold agree within h.0, plan_over rows h.1, h.2)
-  aligned_over (Err (refusal.Overfull pixel found)) h = (
-    first_overfull_over count other lowest highest threshold agree within pixel h.0,
-    h.1 ∙ agree.same (record { order = highest; number = pixel }) (record { order = within; number = h.0.overfull.exists }) (omega arith),
-  )
-  aligned_over (Err (refusal.TooMany found)) h = (
-    nothing_overfull_over count other lowest highest threshold agree within h.0,
-    record { pixels = h.1.pixels; partitions = partitions_over count other lowest highest threshold agree h.1.pixels h.1.partitions; number = h.1.number },
-    h.2,
-  )
-  aligned_over (Err refusal.Memory) h = h
+  pub cut_over : (first : Option Refusal) → IsCutRefusal count lowest highest threshold first → IsCutRefusal other lowest highest threshold first
+  cut_over first (inl (pixel, over, is)) =
+      let same = agree.same (record { order = highest; number = pixel }) (record { order = within; number = over.overfull.exists }) (omega arith) in
+      inl (pixel, first_overfull_over count other lowest highest threshold agree within pixel over, is ∙ ap (λ (n : ℕ). Some (refusal.Overfull pixel n)) same)
+  cut_over first (inr (nothing, pixels, are, is)) =
+      inr (nothing_overfull_over count other lowest highest threshold agree within nothing, pixels, partitions_over count other lowest highest threshold agree pixels are, is)
 
 -- rows of the same pixels that count alike
 same_rows : (count : Pixel → ℕ) (rows others : List PlanRow) → pixels_of rows ≡ pixels_of others → All (λ row. row.count ≡ count row.pixel) rows → All (λ row. row.count ≡ count row.pixel) others → rows ≡ others
@@ -62,23 +59,31 @@ module _ (count : Pixel → ℕ) (lowest highest threshold : ℕ) where
   found_is : (rows : List PlanRow) (found : ℕ) → IsPlanOf count lowest highest threshold rows → HasPartitions count lowest highest threshold found → length rows ≡ found
   found_is rows found h g = sym (length-map rows (λ (row : PlanRow). row.pixel)) ∙ ap (length {A = Pixel}) (partitions_unique count lowest highest threshold (pixels_of rows) g.pixels h.partitions g.partitions) ∙ g.number
 
+  -- one refusal, or none
+  pub cut_unique : (a b : Option Refusal) → IsCutRefusal count lowest highest threshold a → IsCutRefusal count lowest highest threshold b → a ≡ b
+  cut_unique a b (inl (p, over, is)) (inl (q, over', is')) = is ∙ rw (first_unique p q over over') (sym is')
+  cut_unique a b (inl (p, over, is)) (inr (nothing, pixels, are, is')) = absurd (nothing p over.overfull)
+  cut_unique a b (inr (nothing, pixels, are, is')) (inl (p, over, is)) = absurd (nothing p over.overfull)
+  cut_unique a b (inr (nothing, pixels, are, is)) (inr (nothing', others, are', is')) =
+      is ∙ rw (partitions_unique count lowest highest threshold pixels others are are') (sym is')
+
   -- two answers, neither of them for want of memory, are one
-  pub aligned_unique : (a b : Result (List PlanRow) AlignRefusal) → IsAligned count lowest highest threshold a → IsAligned count lowest highest threshold b → a ≢ Err refusal.Memory → b ≢ Err refusal.Memory → a ≡ b
+  pub aligned_unique : (a b : Result (List PlanRow) AlignRefusal) → IsAligned count lowest highest threshold a → IsAligned count lowest highest threshold b → a ≢ Err own.Memory → b ≢ Err own.Memory → a ≡ b
   aligned_unique (Ok rows) (Ok others) h g not_a not_b = ap Ok (plan_unique rows others h.1 g.1)
-  aligned_unique (Ok rows) (Err (refusal.Overfull pixel found)) h g not_a not_b = absurd (h.0 pixel g.0.overfull)
-  aligned_unique (Ok rows) (Err (refusal.TooMany found)) h g not_a not_b = absurd (let same = found_is rows found h.1 g.1 in omega (arith, same, h.2, g.2))
-  aligned_unique (Err (refusal.Overfull pixel found)) (Ok rows) h g not_a not_b = absurd (g.0 pixel h.0.overfull)
-  aligned_unique (Err (refusal.Overfull pixel found)) (Err (refusal.Overfull other count_b)) h g not_a not_b =
+  aligned_unique (Ok rows) (Err (own.Overfull pixel found)) h g not_a not_b = absurd (h.0 pixel g.0.overfull)
+  aligned_unique (Ok rows) (Err (own.TooMany found)) h g not_a not_b = absurd (let same = found_is rows found h.1 g.1 in omega (arith, same, h.2, g.2))
+  aligned_unique (Err (own.Overfull pixel found)) (Ok rows) h g not_a not_b = absurd (g.0 pixel h.0.overfull)
+  aligned_unique (Err (own.Overfull pixel found)) (Err (own.Overfull other count_b)) h g not_a not_b =
       let same = first_unique pixel other h.0 g.0 in
       let counts : found ≡ count_b = h.1 ∙ ap (λ (n : ℕ). count (record { order = highest; number = n })) same ∙ sym g.1 in
       rw (same, counts) refl
-  aligned_unique (Err (refusal.Overfull pixel found)) (Err (refusal.TooMany other)) h g not_a not_b = absurd (g.0 pixel h.0.overfull)
-  aligned_unique (Err (refusal.TooMany found)) (Ok rows) h g not_a not_b = absurd (let same = found_is rows found g.1 h.1 in omega (arith, same, h.2, g.2))
-  aligned_unique (Err (refusal.TooMany found)) (Err (refusal.Overfull pixel other)) h g not_a not_b = absurd (h.0 pixel g.0.overfull)
-  aligned_unique (Err (refusal.TooMany found)) (Err (refusal.TooMany other)) h g not_a not_b =
+  aligned_unique (Err (own.Overfull pixel found)) (Err (own.TooMany other)) h g not_a not_b = absurd (g.0 pixel h.0.overfull)
+  aligned_unique (Err (own.TooMany found)) (Ok rows) h g not_a not_b = absurd (let same = found_is rows found g.1 h.1 in omega (arith, same, h.2, g.2))
+  aligned_unique (Err (own.TooMany found)) (Err (own.Overfull pixel other)) h g not_a not_b = absurd (h.0 pixel g.0.overfull)
+  aligned_unique (Err (own.TooMany found)) (Err (own.TooMany other)) h g not_a not_b =
       let same : found ≡ other = sym h.1.number ∙ ap (length {A = Pixel}) (partitions_unique count lowest highest threshold h.1.pixels g.1.pixels h.1.partitions g.1.partitions) ∙ g.1.number in
       rw same refl
-  aligned_unique (Err refusal.Memory) b h g not_a not_b = absurd (not_a refl)
-  aligned_unique (Ok rows) (Err refusal.Memory) h g not_a not_b = absurd (not_b refl)
-  aligned_unique (Err (refusal.Overfull pixel found)) (Err refusal.Memory) h g not_a not_b = absurd (not_b refl)
-  aligned_unique (Err (refusal.TooMany found)) (Err refusal.Memory) h g not_a not_b = absurd (not_b refl)
+  aligned_unique (Err own.Memory) b h g not_a not_b = absurd (not_a refl)
+  aligned_unique (Ok rows) (Err own.Memory) h g not_a not_b = absurd (not_b refl)
+  aligned_unique (Err (own.Overfull pixel found)) (Err own.Memory) h g not_a not_b = absurd (not_b refl)
+  aligned_unique (Err (own.TooMany found)) (Err own.Memory) h g not_a not_b = absurd (not_b refl)

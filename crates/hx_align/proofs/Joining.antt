@@ -8,7 +8,7 @@ use Rattle.std.proofs.Math.ListN.{get_or-append}
 use Rattle.std.proofs.Math.Nat.{div-lt_iff_lt-mul, le-div_iff_mul-le, mul-le-mul_right}
 use Rattle.std.proofs.lemmas.Nat.{pow-add}
 use Rattle.hx_base.specs.declared.pixel.Pixel.{Pixel}
-use Rattle.hx_base.specs.Pixels.{IsPixel, first_place}
+use Rattle.hx_base.specs.Pixels.{IsPixel, first_position}
 use Rattle.hx_base.specs.Partitions.{IsPartition, parent}
 use Rattle.hx_base.proofs.Partitions.{parent_up}
 use Rattle.hx_base.proofs.Powers.{four_pos}
@@ -119,7 +119,7 @@ module _ (lowest highest threshold number : ℕ) (front run both : Pixel → ℕ
   front_below pixel h = joins.lower pixel h.not_lower h.not_higher h.some
 
   -- a pixel above another at the lowest order begins behind its end
-  begins_before : (pixel : Pixel) → lowest ≤ pixel.order → pixel.order ≤ 29 → above lowest pixel < number → first_place pixel < number * 4 ^ (29 - lowest)
+  begins_before : (pixel : Pixel) → lowest ≤ pixel.order → pixel.order ≤ 29 → above lowest pixel < number → first_position pixel < number * 4 ^ (29 - lowest)
   begins_before pixel low most lt =
       let inner : pixel.number < number * 4 ^ (pixel.order - lowest) = (div-lt_iff_lt-mul {k = 4 ^ (pixel.order - lowest)} {x = pixel.number} {y = number} (four_pos (pixel.order - lowest))).0 lt in
       let e : pixel.order - lowest + (29 - pixel.order) ≡ 29 - lowest = omega arith in
@@ -128,7 +128,7 @@ module _ (lowest highest threshold number : ℕ) (front run both : Pixel → ℕ
       let more = mul-le-mul_right (4 ^ (29 - pixel.order)) (let le : pixel.number + 1 ≤ number * 4 ^ (pixel.order - lowest) = omega arith in le) in
       rw power (omega (arith, some, more))
 
-  begins_at_or_after : (pixel : Pixel) → lowest ≤ pixel.order → pixel.order ≤ 29 → above lowest pixel ≡ number → number * 4 ^ (29 - lowest) ≤ first_place pixel
+  begins_at_or_after : (pixel : Pixel) → lowest ≤ pixel.order → pixel.order ≤ 29 → above lowest pixel ≡ number → number * 4 ^ (29 - lowest) ≤ first_position pixel
   begins_at_or_after pixel low most same =
       let inner : number * 4 ^ (pixel.order - lowest) ≤ pixel.number = (le-div_iff_mul-le {k = 4 ^ (pixel.order - lowest)} {x = number} {y = pixel.number} (four_pos (pixel.order - lowest))).0 (omega arith) in
       let e : pixel.order - lowest + (29 - pixel.order) ≡ 29 - lowest = omega arith in
@@ -144,7 +144,7 @@ module _ (lowest highest threshold number : ℕ) (front run both : Pixel → ℕ
     record Rest (more : List PlanRow) : Type 0 where
       exact : (pixel : Pixel) → above lowest pixel ≡ number → Contains (pixels_of more) pixel ↔ IsPartition both lowest highest threshold pixel
       inside : (pixel : Pixel) → Contains (pixels_of more) pixel → above lowest pixel ≡ number
-      ordered : AllPairs (λ a b. first_place a < first_place b) (pixels_of more)
+      ordered : AllPairs (λ a b. first_position a < first_position b) (pixels_of more)
       counts : All (λ row. row.count ≡ both row.pixel) more
 
     member : (more : List PlanRow) → Rest more → (pixel : Pixel) → Contains (pixels_of rows ++ pixels_of more) pixel → IsPartition both lowest highest threshold pixel
@@ -161,7 +161,7 @@ module _ (lowest highest threshold number : ℕ) (front run both : Pixel → ℕ
       | inr ne ↦ Contains-append_left (pixels_of rows) (pixels_of more) pixel ((plan.partitions.exact pixel).1 ((kept pixel ne).1 h))
     ]
 
-    in_order : (more : List PlanRow) → Rest more → (a b : Pixel) → Contains (pixels_of rows) a → Contains (pixels_of more) b → first_place a < first_place b
+    in_order : (more : List PlanRow) → Rest more → (a b : Pixel) → Contains (pixels_of rows) a → Contains (pixels_of more) b → first_position a < first_position b
     in_order more rest a b in_a in_b =
         let h = in_front a in_a in
         let same = rest.inside b in_b in
@@ -184,7 +184,7 @@ module _ (lowest highest threshold number : ℕ) (front run both : Pixel → ℕ
     joined more rest = record {
       partitions = record {
         exact = λ pixel. rw map-append (member more rest pixel, listed more rest pixel);
-        ordered = rw map-append (AllPairs-append (λ a b. first_place a < first_place b) (pixels_of rows) (pixels_of more) plan.partitions.ordered rest.ordered (in_order more rest));
+        ordered = rw map-append (AllPairs-append (λ a b. first_position a < first_position b) (pixels_of rows) (pixels_of more) plan.partitions.ordered rest.ordered (in_order more rest));
       };
       counts = All-append (λ row. row.count ≡ both row.pixel) rows more row_count rest.counts;
     }

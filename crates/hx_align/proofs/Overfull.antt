@@ -9,23 +9,23 @@ use Rattle.hx_hist.specs.Histograms.{IsHistogram, total_in}
 use Rattle.hx_hist.specs.declared.hist.Pair.{Pair}
 use Rattle.hx_hist.proofs.Totals.{count_is_total, pair_in}
 
--- where the first element that passes stands
-record Place (test : Pair → Bool) (xs : List Pair) (x : Pair) : Type 0 where
+-- the index of the first element that passes
+record FirstAt (test : Pair → Bool) (xs : List Pair) (x : Pair) : Type 0 where
   k : ℕ
   within : k < length xs
   is : (d : Pair) → get_or xs k d ≡ x
   passes : test x ≡ true
   before : (j : ℕ) (d : Pair) → j < k → test (get_or xs j d) ≡ false
 
-place_of : (test : Pair → Bool) (xs : List Pair) (x : Pair) → find test xs ≡ Some x → Place test xs x
-place_of test [] x h = absurd (cc)
-place_of test (y ∷ ys) x h = elim (cases_Bool (test y)) [
+first_at : (test : Pair → Bool) (xs : List Pair) (x : Pair) → find test xs ≡ Some x → FirstAt test xs x
+first_at test [] x h = absurd (cc)
+first_at test (y ∷ ys) x h = elim (cases_Bool (test y)) [
   | inl passes ↦
       let e : Some y ≡ Some x = rw passes at h in
       let same : y ≡ x = cc in
       record { k = 0; within = omega arith; is = λ d. same; passes = subst (λ (z : Pair). test z ≡ true) same passes; before = λ j d lt. absurd (omega arith) }
   | inr fails ↦
-      let rest = place_of test ys x (rw fails at h) in
+      let rest = first_at test ys x (rw fails at h) in
       record { k = suc rest.k; within = omega (arith, rest.within); is = rest.is; passes = rest.passes; before = earlier test y ys rest.k fails rest.before }
 ] where
   earlier : (test : Pair → Bool) (y : Pair) (ys : List Pair) (k : ℕ) → test y ≡ false → ((j : ℕ) (d : Pair) → j < k → test (get_or ys j d) ≡ false) → (j : ℕ) (d : Pair) → j < suc k → test (get_or (y ∷ ys) j d) ≡ false
@@ -78,7 +78,7 @@ module _ (order threshold : ℕ) (pairs : List Pair) (h : IsHistogram order pair
   over_at : (k : ℕ) (d : Pair) → k < length pairs → threshold < (get_or pairs k d).count → IsOverfull count order threshold (get_or pairs k d).pixel
   over_at k d lt more = record { exists = h.range k d lt; more = omega (arith, count_is_total order pairs k d h.ascending lt) }
 
-  first_is : (pair : Pair) → Place above pairs pair → IsFirstOverfull count order threshold pair.pixel
+  first_is : (pair : Pair) → FirstAt above pairs pair → IsFirstOverfull count order threshold pair.pixel
   first_is pair at =
       let here = at.is pair in
       let more : threshold < pair.count = ltb-true _ _ at.passes in
@@ -104,12 +104,12 @@ module _ (order threshold : ℕ) (pairs : List Pair) (h : IsHistogram order pair
   -- what is found is first, with its count; where nothing is found, nothing is overfull
   pub found_first : (r : Option Pair) → r ≡ find above pairs → IfSome r (λ pair. IsFirstOverfull count order threshold pair.pixel)
   found_first None e = tt
-  found_first (Some pair) e = first_is pair (place_of above pairs pair (sym e))
+  found_first (Some pair) e = first_is pair (first_at above pairs pair (sym e))
 
   pub found_count : (r : Option Pair) → r ≡ find above pairs → IfSome r (λ pair. pair.count ≡ total_in (record { order = order; number = pair.pixel }) order pairs)
   found_count None e = tt
   found_count (Some pair) e =
-      let at = place_of above pairs pair (sym e) in
+      let at = first_at above pairs pair (sym e) in
       let total = count_is_total order pairs at.k pair h.ascending at.within in
       subst (λ (p : Pair). p.count ≡ total_in (record { order = order; number = p.pixel }) order pairs) (at.is pair) (sym total)
 

@@ -20,14 +20,14 @@ use Rattle.hx_align.proofs.Joining.{Joins, above, joined_cut, joined_whole}
 abbrev none : Pair
 none = record { pixel = 0; count = 0 }
 
--- the pairs before a place lie in lower pixels, so many orders above, than those from it on
-pub record IsParted (steps place : ℕ) (pairs : List Pair) : Type 0 where
-  pub lower : (i j : ℕ) (d : Pair) → i < place → place ≤ j → j < length pairs → (get_or pairs i d).pixel / 4 ^ steps < (get_or pairs j d).pixel / 4 ^ steps
+-- the pairs before an index lie in lower pixels, so many orders above, than those from it on
+pub record IsParted (steps index : ℕ) (pairs : List Pair) : Type 0 where
+  pub lower : (i j : ℕ) (d : Pair) → i < index → index ≤ j → j < length pairs → (get_or pairs i d).pixel / 4 ^ steps < (get_or pairs j d).pixel / 4 ^ steps
 
 pub parted_at_start : (steps : ℕ) (pairs : List Pair) → IsParted steps 0 pairs
 parted_at_start steps pairs = record { lower = λ i j d lt le within. absurd (omega arith) }
 
--- the pairs of one pixel, so many orders above, from a place on
+-- the pairs of one pixel, so many orders above, from an index on
 pub record IsRun (steps number start size : ℕ) (pairs : List Pair) : Type 0 where
   pub some : 0 < size
   pub within : start + size ≤ length pairs
@@ -154,7 +154,7 @@ run_at_highest pairs highest threshold number start size most h run fits =
     let small = All-take (λ pair. pair.count ≤ threshold) size (drop start pairs) (All-drop (λ pair. pair.count ≤ threshold) start pairs fits) in
     omega (arith, total, one, at, small 0 none some)
 
--- the rest of a list from a place on
+-- the rest of a list from an index on
 pub rest_is : (pairs : List Pair) (start : ℕ) → take (length pairs - start) (drop start pairs) ≡ drop start pairs
 rest_is pairs start = take_all (length pairs - start) (drop start pairs) (omega (arith, length-drop start pairs))
 

@@ -1,13 +1,13 @@
 -- Plans: the partitions of counted rows, and what an alignment answers.
 use Rattle.std.specs.Prelude.{◌≡◌, ◌<◌, ◌≤◌, ◌++◌, ⊤, ℕ, List, All, Result, Ok, Err, length, map}
 use Rattle.hx_base.specs.declared.pixel.Pixel.{Pixel}
-use Rattle.hx_base.specs.Limits.{most_partitions}
+use Rattle.hx_base.specs.Limits.{highest_order, most_in_partition, most_partitions}
 use Rattle.hx_base.specs.Partitions.{ArePartitions, IsFirstOverfull, NothingOverfull}
 use Rattle.hx_base.specs.Pixels.{AreDisjointInOrder}
 use Rattle.hx_hist.specs.Histograms.{Histogram, total_in}
 use Rattle.hx_align.specs.declared.plan.PlanRow.{PlanRow}
-use Rattle.hx_align.specs.declared.plan.AlignRefusal.{AlignRefusal}
-use Rattle.hx_align.specs.declared.plan.AlignRefusal.TheVariants as refusal
+use Rattle.hx_align.specs.declared.refusal.AlignRefusal.{AlignRefusal}
+use Rattle.hx_align.specs.declared.refusal.AlignRefusal.TheVariants as refusal
 
 -- how many rows of a histogram each pixel contains
 abbrev pub totals_of : Histogram → Pixel → ℕ
@@ -33,11 +33,22 @@ pub record HasPartitions (count : Pixel → ℕ) (lowest highest threshold found
   pub partitions : ArePartitions count lowest highest threshold pixels
   pub number : length pixels ≡ found
 
+-- what each row of a plan keeps: its pixel's order and its count lie within their limits
+pub record IsPlanRow (row : PlanRow) : Type 0 where
+  pub order : row.pixel.order ≤ highest_order
+  pub least : 1 ≤ row.count
+  pub most : row.count ≤ most_in_partition
+
 -- what a plan keeps, whatever it was made of
 pub record IsPlan (rows : List PlanRow) : Type 0 where
   pub most : length rows ≤ most_partitions
   pub disjoint : AreDisjointInOrder (pixels_of rows)
-  pub some : All (λ row. 1 ≤ row.count) rows
+  pub each : All IsPlanRow rows
+
+-- a plan's pixels are kept beside its rows
+pub record AreKept (rows : List PlanRow) (pixels : List Pixel) : Type 0 where
+  pub plan : IsPlan rows
+  pub shown : pixels ≡ pixels_of rows
 
 -- The plan is all partitions with their counts, where no pixel is overfull and there are at most so many partitions as a catalogue may have.
 -- Else the first overfull pixel is named with its count; or, where none is, how many partitions there are.

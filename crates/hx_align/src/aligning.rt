@@ -1,10 +1,12 @@
 //! The partitions of a histogram.
 ghost use Rattle.std.specs.Prelude.{◌≡◌, ◌≤◌, All, IfNone, IfOk, IfSome, find, nat_lt};
+ghost use Rattle.hx_base.specs.Limits.{highest_order, most_in_partition};
 ghost use Rattle.hx_base.specs.Partitions.{IsFirstOverfull, NothingOverfull};
 ghost use Rattle.hx_align.specs.Plans.{IsAligned, IsPlanOf, totals_of};
 
 use crate::descent::append_partitions;
-use crate::plan::{AlignRefusal, Plan, PlanRow};
+use crate::plan::{Plan, PlanRow};
+use crate::refusal::AlignRefusal;
 use hx_base::MOST_PARTITIONS;
 use hx_hist::{Hist, Pair};
 use std::alloc::{AllocError, Global};
@@ -46,7 +48,8 @@ fn partitions_of(
 }
 
 /// The partitions of counted rows: the largest pixels of orders from the lowest to the highest that contain rows,
-/// and no more of them than the threshold. The histogram is one of the highest order.
+/// and no more of them than the threshold. The histogram is one of the highest order, at most 20, and the threshold is
+/// from 1 to 1000000.
 ///
 /// A pixel of the highest order with more rows than the threshold is refused as overfull, the first such one; then
 /// more than 100000 partitions are refused. Each pair is summed up once at each order at most.
@@ -59,6 +62,9 @@ pub fn align(
 ) -> Result<Plan, AlignRefusal>
     requires order { hist.now.order ≡ highest }
     requires lowest { lowest ≤ highest }
+    requires highest { highest ≤ highest_order }
+    requires threshold_least { 1 ≤ threshold }
+    requires threshold_most { threshold ≤ most_in_partition }
     ensures { IsAligned (totals_of hist.now) lowest highest threshold result }
 {
     if let Some(pair) = first_overfull(hist, threshold) {
@@ -67,13 +73,11 @@ pub fn align(
             count: pair.count,
         });
     }
-    let Ok(rows) = partitions_of(alloc, hist, lowest, threshold) else {
-        return Err(AlignRefusal::Memory);
-    };
+    let rows = partitions_of(alloc, hist, lowest, threshold)?;
     if rows.len() > MOST_PARTITIONS {
         return Err(AlignRefusal::TooMany {
             found: rows.len() as u64,
         });
     }
-    Ok(Plan { rows })
+    Ok(Plan::new(alloc, rows)?)
 }

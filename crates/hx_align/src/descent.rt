@@ -1,5 +1,5 @@
 //! Cutting counted pixels into partitions.
-ghost use Rattle.std.specs.Prelude.{◌≡◌, ◌+◌, ◌*◌, ◌/◌, ◌^◌, ◌<◌, ◌≤◌, ◌≢◌, ◌↔◌, All, IsTrue, OnOk, length, take, slice_index_or};
+ghost use Rattle.std.specs.Prelude.{◌≡◌, ◌+◌, ◌-◌, ◌/◌, ◌^◌, ◌<◌, ◌≤◌, ◌≢◌, ◌↔◌, All, IsTrue, OnOk, length, take, slice_index_or};
 ghost use Rattle.hx_hist.specs.Histograms.{IsHistogram, total_in, total_of};
 ghost use Rattle.hx_hist.specs.declared.hist.Pair.{Pair};
 ghost use Rattle.hx_align.specs.Plans.{AppendsPlan};
@@ -9,18 +9,25 @@ use hx_base::Pixel;
 use hx_hist::Pair;
 use std::alloc::AllocError;
 
-// The pixel so many orders above in which a pixel lies.
-fn ancestor(pixel: u64, steps: u8) -> u64
-    requires { steps ≤ 29 }
-    ensures { result ≡ pixel / 4 ^ steps }
+// The pixel of the lowest order in which a pair of the highest one lies.
+#[inline]
+fn pixel_above(pair: &Pair, lowest: u8, highest: u8) -> Pixel
+    requires lowest { lowest ≤ highest }
+    requires highest { highest ≤ 29 }
+    ensures order { result.order ≡ lowest }
+    ensures number { result.number ≡ pair.now.pixel / 4 ^ (highest - lowest) }
 {
-    pixel >> (2 * steps)
+    let pixel = Pixel {
+        order: highest,
+        number: pair.pixel,
+    };
+    pixel.ancestor(highest - lowest)
 }
 
 // The pairs at the head of a list that lie in one pixel.
 #[derive(Clone, Copy)]
 struct Run {
-    number: u64,
+    pixel: Pixel,
     pairs: usize,
     count: u64,
 }
@@ -34,24 +41,27 @@ impl Run {
     }
 }
 
-// The pairs at the head of a list that lie in the same pixel as the first, so many orders above.
-fn first_run(pairs: &[Pair], steps: u8) -> Run
+// The pairs at the head of a list, of the highest order, that lie in the first one's pixel of the lowest order.
+fn first_run(pairs: &[Pair], lowest: u8, highest: u8) -> Run
     requires some { 0 < length pairs.now }
-    requires steps { steps ≤ 29 }
+    requires lowest { lowest ≤ highest }
+    requires highest { highest ≤ 29 }
     requires total { total_of pairs.now < 2 ^ 64 }
+    ensures order { result.pixel.order ≡ lowest }
     ensures some { 0 < result.pairs }
     ensures within { result.pairs ≤ length pairs.now }
-    ensures run { All (λ pair. pair.pixel / 4 ^ steps ≡ result.number) (take result.pairs pairs.now) }
+    ensures run { All (λ pair. pair.pixel / 4 ^ (highest - lowest) ≡ result.pixel.number)
+        (take result.pairs pairs.now) }
     ensures end { (d : Pair) → result.pairs < length pairs.now →
-        (slice_index_or pairs.now result.pairs d).pixel / 4 ^ steps ≢ result.number }
+        (slice_index_or pairs.now result.pairs d).pixel / 4 ^ (highest - lowest) ≢ result.pixel.number }
     ensures count { result.count ≡ total_of (take result.pairs pairs.now) }
 {
-    let number = ancestor(pairs[0].pixel, steps);
+    let pixel = pixel_above(&pairs[0], lowest, highest);
     let mut count = 0;
     for (i, pair) in pairs.iter().enumerate() {
-        if ancestor(pair.pixel, steps) != number {
+        if pixel_above(pair, lowest, highest).number != pixel.number {
             return Run {
-                number,
+                pixel,
                 pairs: i,
                 count,
             };
@@ -59,7 +69,7 @@ fn first_run(pairs: &[Pair], steps: u8) -> Run
         count += pair.count;
     }
     Run {
-        number,
+        pixel,
         pairs: pairs.len(),
         count,
     }
@@ -86,15 +96,11 @@ pub fn append_partitions(
 {
     let mut start = 0;
     while start < pairs.len() {
-        let run = first_run(&pairs[start..], highest - lowest);
+        let run = first_run(&pairs[start..], lowest, highest);
         let end = start + run.pairs;
         if run.fits(threshold) {
-            let pixel = Pixel {
-                order: lowest,
-                number: run.number,
-            };
             rows.push(PlanRow {
-                pixel,
+                pixel: run.pixel,
                 count: run.count,
             })?;
         } else {

@@ -3,9 +3,13 @@
 
 mod aligning;
 mod descent;
+mod laws;
 mod plan;
+mod refusal;
 #[cfg(test)]
 mod tests;
 
 pub use aligning::align;
-pub use plan::{AlignRefusal, Plan, PlanRow};
+pub use laws::alignments_have_one_answer;
+pub use plan::{Plan, PlanRow};
+pub use refusal::AlignRefusal;

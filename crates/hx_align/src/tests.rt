@@ -1,9 +1,10 @@
 ghost use Rattle.std.specs.Prelude.{◌≡◌, ◌↔◌, ◌*◌, ◌^◌, ◌<◌, ◌≤◌, IfOk, IsTrue};
+ghost use Rattle.hx_base.specs.Limits.{highest_order, most_in_partition};
 ghost use Rattle.hx_base.specs.Partitions.{IsPartition};
 ghost use Rattle.hx_align.specs.Plans.{totals_of};
 
-use crate::{AlignRefusal, PlanRow, align};
-use hx_base::Pixel;
+use crate::{AlignRefusal, Plan, PlanRow, align};
+use hx_base::{Pixel, Refusal};
 use hx_hist::Hist;
 use std::alloc::{AllocError, Global};
 use std::process::Abort;
@@ -42,11 +43,20 @@ fn check_planned(
     threshold: u64,
     wanted: &[(u8, u64, u64)],
 ) -> Result<(), Fail>
-    requires { lowest ≤ 1 }
+    requires lowest { lowest ≤ 1 }
+    requires threshold_least { 1 ≤ threshold }
+    requires threshold_most { threshold ≤ most_in_partition }
 {
     let hist = hist_of(alloc, 1, 48, added)?;
     let plan = align(alloc, &hist, lowest, 1, threshold)?;
     assert!(rt; is_planned(plan.rows(), wanted));
+    assert_eq!(rt; plan.pixels().len(), wanted.len());
+    assert!(rt;
+        plan.pixels()
+            .iter()
+            .zip(plan.rows())
+            .all(|(pixel, row)| *pixel == row.pixel)
+    );
     Ok(())
 }
 
@@ -85,6 +95,55 @@ fn partitions_are_the_largest_pixels(rt: HostRuntime) -> Result<(), Fail> {
     )
 }
 
+const fn row(order: u8, number: u64, count: u64) -> PlanRow {
+    let pixel = Pixel { order, number };
+    PlanRow { pixel, count }
+}
+
+#[test]
+fn plans_of_rows(rt: HostRuntime) -> Result<(), Fail> {
+    let alloc = rt.alloc();
+    let rows = [row(0, 0, 1), row(20, 4 << 40, 1_000_000), row(1, 17, 7)];
+    let plan = Plan::checked(alloc, Vec::from_array(alloc, rows)?)?.ok_or("no plan")?;
+    assert!(&rt; plan.rows() == rows.as_slice());
+    assert!(&rt; plan.pixels() == [rows[0].pixel, rows[1].pixel, rows[2].pixel].as_slice());
+    assert!(&rt; Plan::checked(alloc, Vec::new(alloc))?.is_some());
+    let refused = [
+        // Equal, one in the other, out of order, no pixel.
+        [row(3, 8, 1), row(3, 8, 1)],
+        [row(0, 1, 1), row(1, 7, 1)],
+        [row(0, 1, 1), row(0, 0, 1)],
+        [row(0, 0, 1), row(0, 12, 1)],
+        // Of too high an order, no row, too many rows.
+        [row(0, 0, 1), row(21, 4 << 42, 1)],
+        [row(0, 0, 0), row(0, 1, 1)],
+        [row(0, 0, 1), row(0, 1, 1_000_001)],
+    ];
+    for rows in refused {
+        assert!(&rt; Plan::checked(alloc, Vec::from_array(alloc, rows)?)?.is_none());
+    }
+    Ok(())
+}
+
+#[test]
+fn refusals(rt: HostRuntime) {
+    let overfull = AlignRefusal::Overfull { pixel: 5, count: 7 };
+    let many = AlignRefusal::TooMany { found: 100_001 };
+    assert_eq!(rt;
+        Refusal::from(overfull),
+        Refusal::Overfull { pixel: 5, count: 7 }
+    );
+    assert_eq!(rt;
+        Refusal::from(many),
+        Refusal::TooMany {
+            what: 3,
+            found: 100_001,
+            limit: 100_000
+        }
+    );
+    assert_eq!(rt; Refusal::from(AlignRefusal::Memory), Refusal::Memory);
+}
+
 // The refusal, if there is one. Want of memory is an error here.
 fn refusal_of(
     alloc: Global,
@@ -92,7 +151,10 @@ fn refusal_of(
     lowest: u8,
     threshold: u64,
 ) -> Result<Option<AlignRefusal>, AlignRefusal>
-    requires { lowest ≤ hist.now.order }
+    requires lowest { lowest ≤ hist.now.order }
+    requires highest { hist.now.order ≤ highest_order }
+    requires threshold_least { 1 ≤ threshold }
+    requires threshold_most { threshold ≤ most_in_partition }
 {
     match align(alloc, hist, lowest, hist.order(), threshold) {
         Ok(_) => Ok(None),
@@ -230,6 +292,8 @@ fn overfull(hist: &Hist, threshold: u64) -> Option<AlignRefusal>
 fn agrees(alloc: Global, hist: &Hist, lowest: u8, threshold: u64) -> Result<bool, Fail>
     requires order { hist.now.order ≡ 2 }
     requires lowest { lowest ≤ 2 }
+    requires threshold_least { 1 ≤ threshold }
+    requires threshold_most { threshold ≤ most_in_partition }
 {
     let refusal = overfull(hist, threshold);
     if refusal.is_some() {
