@@ -1,20 +1,20 @@
 -- Which corners of two faces are one point, for each two rows of faces.
 use Rattle.std.proofs.Common.{◌≡◌, ◌∙◌, ◌+◌, ◌-◌, ◌*◌, ◌<◌, ◌≤◌, ◌⊎◌, ℕ, refl, sym, arith, inl, inr}
 use Rattle.std.proofs.lemmas.Bool.{cases_lt, cases_eq}
-use Rattle.hx_base.specs.Touching.{place_on}
+use Rattle.hx_base.specs.Touching.{index_on}
 use Rattle.hx_nest.proofs.Sectors.{next, OnePlace, one_place, from_one_place}
 use Rattle.hx_nest.proofs.Table.{prev, opposite}
 use Rattle.hx_nest.proofs.Spots.{IsSpot, east, west, spot_north, spot_south, spot_belt_0, spot_belt_1, spot_belt_2, at_pole}
 
--- one place on ring v
+-- one spot on ring v
 abbrev OnRing : ℕ → ℕ → ℕ → ℕ → ℕ → ℕ → ℕ → ℕ → Type 0
-OnRing n f x y g a b v = place_on n f x y v ≡ place_on n g a b v
+OnRing n f x y g a b v = index_on n f x y v ≡ index_on n g a b v
 
 meets : (n f x y g a b v size c t d u : ℕ) → 0 < size → IsSpot n f x y v size c t → IsSpot n g a b v size d u → OnRing n f x y g a b v → OnePlace size c t d u
-meets n f x y g a b v size c t d u pos here there e = one_place size c t d u pos here.sector there.sector here.within there.within (sym here.place ∙ e ∙ there.place)
+meets n f x y g a b v size c t d u pos here there e = one_place size c t d u pos here.sector there.sector here.within there.within (sym here.spot ∙ e ∙ there.spot)
 
 met : (n f x y g a b v size c t d u : ℕ) → IsSpot n f x y v size c t → IsSpot n g a b v size d u → OnePlace size c t d u → OnRing n f x y g a b v
-met n f x y g a b v size c t d u here there one = here.place ∙ from_one_place size c t d u here.sector there.sector one ∙ sym there.place
+met n f x y g a b v size c t d u here there one = here.spot ∙ from_one_place size c t d u here.sector there.sector one ∙ sym there.spot
 
 columns : (c d : ℕ) → c < 4 → d < 4 → (c ≡ d) ⊎ ((d ≡ next c) ⊎ ((c ≡ next d) ⊎ (d ≡ opposite c)))
 columns c d hc hd =

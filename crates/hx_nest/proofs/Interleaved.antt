@@ -1,4 +1,4 @@
--- The number of a place: its face, and the bits of its coordinates in turn.
+-- The number of a spot: its face, and the bits of its coordinates in turn.
 use Rattle.std.proofs.Common.{◌≡◌, ◌∙◌, ◌+◌, ◌-◌, ◌*◌, ◌/◌, ◌%◌, ◌^◌, ◌<◌, ◌≤◌, ℕ, zero, suc, sym, ap, arith, refl}
 use Rattle.std.proofs.lemmas.Nat.{same_from_place, div_below, div-add-mod', mod_below}
 use Rattle.std.proofs.Math.Nat.{pow-suc, pow-le-pow_right, mod-eq_of_lt, div-mul-le_self}
@@ -9,7 +9,7 @@ pub interleave_below : (k x y : ℕ) → interleave k x y < 4 ^ k
 interleave_below zero x y = omega arith
 interleave_below (suc k) x y = omega (arith, interleave_below k (x / 2) (y / 2), pow-suc 4 k)
 
--- two places with one number are one place
+-- two spots with one number are one spot
 pub interleave_exact : (k x y a b : ℕ) → x < 2 ^ k → y < 2 ^ k → a < 2 ^ k → b < 2 ^ k → interleave k x y ≡ interleave k a b → (x ≡ a) × (y ≡ b)
 interleave_exact zero x y a b hx hy ha hb e = (omega arith, omega arith)
 interleave_exact (suc k) x y a b hx hy ha hb e =
@@ -18,12 +18,12 @@ interleave_exact (suc k) x y a b hx hy ha hb e =
     let half = interleave_exact k (x / 2) (y / 2) (a / 2) (b / 2) (omega arith) (omega arith) (omega arith) (omega arith) rest in
     (omega (arith, half.0), omega (arith, half.1))
 
--- a pixel has one place
+-- a pixel has one spot
 pub one_place : (k p f x y g a b : ℕ) → IsAt k p f x y → IsAt k p g a b → (f ≡ g) × (x ≡ a) × (y ≡ b)
 one_place k p f x y g a b here there =
     let parts = same_from_place f (interleave k x y) g (interleave k a b) (4 ^ k) (interleave_below k x y) (interleave_below k a b) (sym here.number ∙ there.number) in
-    let place = interleave_exact k x y a b here.x_range here.y_range there.x_range there.y_range parts.1 in
-    (parts.0, place.0, place.1)
+    let spot = interleave_exact k x y a b here.x_range here.y_range there.x_range there.y_range parts.1 in
+    (parts.0, spot.0, spot.1)
 
 pub number_below : (k p f x y : ℕ) → IsAt k p f x y → p < 12 * 4 ^ k
 number_below k p f x y here =
@@ -49,7 +49,7 @@ whole k p face rest small f e =
     let q : p / 2 ^ (2 * k) ≡ p / 4 ^ k = ap (λ (m : ℕ). p / m) (sym (four_is k)) in
     rw (q, r) (omega (arith, div-mul-le_self p (4 ^ k)))
 
--- the number of a place
+-- the number of a spot
 pub joined_at : (k face x y : ℕ) → face < 12 → x < 2 ^ k → y < 2 ^ k → IsAt k (face * 4 ^ k + interleave k x y) face x y
 joined_at k face x y f hx hy = record { face_range = f; x_range = hx; y_range = hy; number = refl }
 

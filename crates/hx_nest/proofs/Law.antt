@@ -1,7 +1,7 @@
 -- The law on corner points: two corners are one point exactly where they are one corner, or the table joins their faces there.
 use Rattle.std.proofs.Common.{◌≡◌, ◌∙◌, ◌+◌, ◌-◌, ◌*◌, ◌<◌, ◌≤◌, ℕ, refl, sym, ap, subst, arith, inl, inr, slice_index}
 use Rattle.std.proofs.lemmas.Bool.{cases_lt}
-use Rattle.hx_base.specs.Touching.{ring, place_on, corner_point}
+use Rattle.hx_base.specs.Touching.{ring, index_on, corner_point}
 use Rattle.hx_nest.specs.declared.side.Side.{Side}
 use Rattle.hx_nest.specs.declared.side.Side.TheVariants.{South, SouthEast, East, SouthWest, NorthEast, West, NorthWest, North}
 use Rattle.hx_nest.specs.Sides.{faces_beyond, beyond, LiesOn, AreJoined, AreOneCorner}
@@ -12,14 +12,14 @@ use Rattle.hx_nest.proofs.Spots.{ring_0, ring_1, ring_2}
 use Rattle.hx_nest.proofs.Corners as corners
 use Rattle.hx_nest.proofs.Corners.{AtNorth, AtSouth, OnEquator, NorthOfEquator, NorthOfSouth, itself, eastward, westward, across, itself_south, eastward_south, westward_south, across_south, itself_on, eastward_on, westward_on, north_west_of, north_east_of, north_west_above, north_east_above}
 
--- a point by a ring and the place on it
-point_on : (n f x y v : ℕ) → ring n f x y ≡ v → corner_point n f x y ≡ (v, place_on n f x y v)
-point_on n f x y v e = ap (λ (k : ℕ). (k, place_on n f x y k)) e
+-- a point by a ring and the spot on it
+point_on : (n f x y v : ℕ) → ring n f x y ≡ v → corner_point n f x y ≡ (v, index_on n f x y v)
+point_on n f x y v e = ap (λ (k : ℕ). (k, index_on n f x y k)) e
 
-same_from : (n f x y g a b v : ℕ) → ring n f x y ≡ v → ring n g a b ≡ v → place_on n f x y v ≡ place_on n g a b v → corner_point n f x y ≡ corner_point n g a b
+same_from : (n f x y g a b v : ℕ) → ring n f x y ≡ v → ring n g a b ≡ v → index_on n f x y v ≡ index_on n g a b v → corner_point n f x y ≡ corner_point n g a b
 same_from n f x y g a b v r s e = point_on n f x y v r ∙ ap (λ (k : ℕ). (v, k)) e ∙ sym (point_on n g a b v s)
 
-same_place : (n f x y g a b v : ℕ) → ring n f x y ≡ v → ring n g a b ≡ v → corner_point n f x y ≡ corner_point n g a b → place_on n f x y v ≡ place_on n g a b v
+same_place : (n f x y g a b v : ℕ) → ring n f x y ≡ v → ring n g a b ≡ v → corner_point n f x y ≡ corner_point n g a b → index_on n f x y v ≡ index_on n g a b v
 same_place n f x y g a b v r s e = ap (λ (p : ℕ × ℕ). p.1) (sym (point_on n f x y v r) ∙ e ∙ point_on n g a b v s)
 
 same_ring : (n f x y g a b v w : ℕ) → ring n f x y ≡ v → ring n g a b ≡ w → corner_point n f x y ≡ corner_point n g a b → v ≡ w
@@ -128,7 +128,7 @@ pair p q a b e f = ap (λ (k : ℕ). (k, q)) e ∙ ap (λ (k : ℕ). (a, k)) f
 
 -- the table joins what it crosses to
 joins : (n : ℕ) (side : Side) (f x y g a b h p q : ℕ) → LiesOn n side x y → Crosses n side f x y h p q → h ≡ g → p ≡ a → q ≡ b → AreOneCorner n f x y g a b
-joins n side f x y g a b h p q on crosses e s t = inr (record { side = side; on_side = on; joined = crosses.0 ∙ e; place = crosses.1 ∙ pair p q a b s t })
+joins n side f x y g a b h p q on crosses e s t = inr (record { side = side; on_side = on; joined = crosses.0 ∙ e; spot = crosses.1 ∙ pair p q a b s t })
 
 stays : (n f x y g a b : ℕ) → f ≡ g → x ≡ a → y ≡ b → AreOneCorner n f x y g a b
 stays n f x y g a b e s t = inl (e, s, t)
@@ -200,8 +200,8 @@ module _ (n x y a b : ℕ) (pos : 0 < n) (hx : x ≤ n) (hy : y ≤ n) (ha : a �
 carry : (n : ℕ) (side : Side) (f x y h p q g a b : ℕ) → corner_point n f x y ≡ corner_point n h p q → Crosses n side f x y h p q → slice_index (faces_beyond side) f ≡ g → beyond n side f x y ≡ (a, b)
     → corner_point n f x y ≡ corner_point n g a b
 carry n side f x y h p q g a b same crosses e s =
-    let place : ◌≡◌ {A = ℕ × ℕ} (p, q) (a, b) = sym crosses.1 ∙ s in
-    same ∙ ap (λ (k : ℕ). corner_point n k p q) (sym crosses.0 ∙ e) ∙ ap (λ (k : ℕ × ℕ). corner_point n g k.0 k.1) place
+    let spot : ◌≡◌ {A = ℕ × ℕ} (p, q) (a, b) = sym crosses.1 ∙ s in
+    same ∙ ap (λ (k : ℕ). corner_point n k p q) (sym crosses.0 ∙ e) ∙ ap (λ (k : ℕ × ℕ). corner_point n g k.0 k.1) spot
 
 module _ (n x y g a b : ℕ) (pos : 0 < n) (hx : x ≤ n) (hy : y ≤ n) (hg : g < 12) where
   abbrev Joins : Side → ℕ → Type 0
@@ -248,7 +248,7 @@ module _ (n x y g a b : ℕ) (pos : 0 < n) (hx : x ≤ n) (hy : y ≤ n) (hg : g
   joined_south c h North (s, t) e p = carry n North (8 + c) x y _ _ _ g a b (sym (far_same n c 0 0 c x y h h pos none none hx hy refl refl refl s t)) (table.north_2 n c x y h) e p
 
   pub joined_point : (f : ℕ) → f < 12 → AreJoined n f x y g a b → corner_point n f x y ≡ corner_point n g a b
-  joined_point f hf j = by_row (λ f. (side : Side) → Joins side f) joined_north joined_equator joined_south f hf j.side j.on_side j.joined j.place
+  joined_point f hf j = by_row (λ f. (side : Side) → Joins side f) joined_north joined_equator joined_south f hf j.side j.on_side j.joined j.spot
 
 pub one_point : (n f x y g a b : ℕ) → 0 < n → f < 12 → g < 12 → x ≤ n → y ≤ n → AreOneCorner n f x y g a b → corner_point n f x y ≡ corner_point n g a b
 one_point n f x y g a b pos hf hg hx hy (inl (e, s, t)) = rw (e, s, t) refl

@@ -1,10 +1,10 @@
 -- The parents of touching pixels are equal or touch, since a step halves to a step.
-use Rattle.std.proofs.Common.{◌≡◌, ◌∙◌, ◌==◌, ◌+◌, ◌-◌, ◌*◌, ◌/◌, ◌^◌, ◌⊎◌, ℕ, Bool, Option, Some, None, true, false, suc, refl, sym, ap, subst, arith, inl, inr, slice_index, if◌then◌else◌, nat_lt, add-one}
+use Rattle.std.proofs.Common.{◌≡◌, ◌∙◌, ◌==◌, ◌+◌, ◌-◌, ◌*◌, ◌/◌, ◌^◌, ◌⊎◌, ℕ, Bool, Option, Some, None, true, false, zero, suc, refl, sym, ap, subst, arith, inl, inr, slice_index, if◌then◌else◌, nat_lt, add-one}
 use Rattle.std.proofs.lemmas.Bool.{cases_eq, cases_Bool}
 use Rattle.std.proofs.lemmas.Nat.{pow_pos}
-use Rattle.std.proofs.Math.Nat.{pow-suc}
+use Rattle.std.proofs.Math.Nat.{div-div-eq-div-mul, div-one, pow-suc, pow-succ'}
 use Rattle.hx_base.specs.Touching.{IsAt, Touch, interleave}
-use Rattle.hx_nest.specs.declared.place.FaceXy.{FaceXy}
+use Rattle.hx_nest.specs.declared.spot.FaceXy.{FaceXy}
 use Rattle.hx_nest.specs.declared.side.Side.{Side}
 use Rattle.hx_nest.specs.declared.side.Side.TheVariants.{South, SouthEast, East, SouthWest, NorthEast, West, NorthWest, North}
 use Rattle.hx_nest.specs.declared.step.Coordinate.{Coordinate}
@@ -126,3 +126,22 @@ parents_touch k p q touch =
     let next : Touch (suc k) p q = subst (λ (j : ℕ). Touch j p q) (add-one k) touch in
     let corner = next.shared.1 in
     parents k p q corner.0 corner.1 corner.2 corner.5 next
+
+-- an ancestor is a parent's ancestor
+by_parent : (p steps : ℕ) → p / 4 ^ suc steps ≡ p / 4 / 4 ^ steps
+by_parent p steps = ap (λ (d : ℕ). p / d) (pow-succ' 4 steps) ∙ sym (div-div-eq-div-mul p 4 (4 ^ steps))
+
+-- and so any number of orders up
+pub ancestors_touch : (steps k p q : ℕ) → Touch (k + steps) p q → (p / 4 ^ steps ≡ q / 4 ^ steps) ⊎ Touch k (p / 4 ^ steps) (q / 4 ^ steps)
+ancestors_touch zero k p q touch =
+    let none : k + 0 ≡ k = omega arith in
+    inr (rw (div-one p, div-one q) (subst (λ (j : ℕ). Touch j p q) none touch))
+ancestors_touch (suc steps) k p q touch =
+    let next : k + suc steps ≡ k + steps + 1 = omega arith in
+    let up = parents_touch (k + steps) p q (subst (λ (j : ℕ). Touch j p q) next touch) in
+    rw (by_parent p steps, by_parent q steps) (
+    elim up [
+      | inl same ↦ inl (ap (λ (n : ℕ). n / 4 ^ steps) same)
+      | inr parents ↦ ancestors_touch steps k (p / 4) (q / 4) parents
+    ]
+    )

@@ -2,7 +2,7 @@
 use Rattle.std.proofs.Common.{◌≢◌, ◌≡◌, ◌∙◌, ◌==◌, ◌+◌, ◌-◌, ◌<◌, ◌≤◌, ℕ, Option, Some, None, true, false, refl, sym, ap, subst, arith, inl, inr, slice_index, eq-eqb}
 use Rattle.std.proofs.lemmas.Bool.{ne_eqb}
 use Rattle.hx_base.specs.Touching.{corner_point}
-use Rattle.hx_nest.specs.declared.place.FaceXy.{FaceXy}
+use Rattle.hx_nest.specs.declared.spot.FaceXy.{FaceXy}
 use Rattle.hx_nest.specs.declared.side.Side.{Side}
 use Rattle.hx_nest.specs.declared.side.Side.TheVariants.{South, SouthEast, East, SouthWest, NorthEast, West, NorthWest, North}
 use Rattle.hx_nest.specs.declared.step.Coordinate.{Coordinate}
@@ -44,12 +44,12 @@ module _ (last f x y : ℕ) (hf : f < 12) (hx : x ≤ last) (hy : y ≤ last) wh
   reach : (side : Side) (h p q u v i j k m a b : ℕ) → Crosses last side f u v h p q → Crosses (last + 1) side f (x + i) (y + j) h a b → LiesOn (last + 1) side (x + i) (y + j)
       → (h < 12) × (h ≢ f) × (p ≤ last) × (q ≤ last) × (i ≤ 1) × (j ≤ 1) × (k ≤ 1) × (m ≤ 1) × (a ≡ p + k) × (b ≡ q + m) → (pixel : FaceXy) → across last side f u v ≡ Some pixel → IsReached last f x y pixel
   reach side h p q u v i j k m a b crosses corner on (small, off, hp, hq, hi, hj, hk, hm, ea, eb) pixel e =
-      let joined = joined_point (last + 1) (x + i) (y + j) h a b (omega arith) (omega arith) (omega arith) small f hf (record { side = side; on_side = on; joined = corner.0; place = corner.1 }) in
+      let joined = joined_point (last + 1) (x + i) (y + j) h a b (omega arith) (omega arith) (omega arith) small f hf (record { side = side; on_side = on; joined = corner.0; spot = corner.1 }) in
       got (IsReached last f x y) (across last side f u v) (record { face = h; x = p; y = q }) pixel (lands last side f u v h p q crosses small) e
       (record {
         on_grid = record { face_range = small; x_range = hp; y_range = hq };
         shares = (i, j, k, m, hi, hj, hk, hm, joined ∙ ap (λ (z : ℕ). corner_point (last + 1) h z b) ea ∙ ap (λ (z : ℕ). corner_point (last + 1) h (p + k) z) eb);
-        other = λ same place. off same;
+        other = λ same spot. off same;
       })
 
   -- a step that stays on the face
@@ -61,7 +61,7 @@ module _ (last f x y : ℕ) (hf : f < 12) (hx : x ≤ last) (hy : y ≤ last) wh
       (record {
         on_grid = record { face_range = hf; x_range = na.0; y_range = nb.0 };
         shares = (a - x, b - y, x - a, y - b, omega arith, omega arith, omega arith, omega arith, ap (λ (z : ℕ). corner_point (last + 1) f z (y + (b - y))) px ∙ ap (λ (z : ℕ). corner_point (last + 1) f (a + (x - a)) z) py);
-        other = λ same place. off place;
+        other = λ same spot. off spot;
       })
 
 -- not the pixel's own coordinates
@@ -213,7 +213,7 @@ module _ (last x y g a b i j k m : ℕ) (hx : x ≤ last) (hy : y ≤ last) (hg 
       (Above, Above, omega arith, omega arith, arrive last North (8 + c) last last c 0 0 g a b (table.north_2 last c last last hc) (omega arith) t.0 (omega arith) (omega arith))
 
   finds : (f : ℕ) → f < 12 → AreJoined (last + 1) f (x + i) (y + j) g (a + k) (b + m) → Steps last f x y g a b
-  finds f hf h = by_row (λ f. (side : Side) → Finds f side) finds_north finds_equator finds_south f hf h.side h.on_side h.joined h.place
+  finds f hf h = by_row (λ f. (side : Side) → Finds f side) finds_north finds_equator finds_south f hf h.side h.on_side h.joined h.spot
 
 pub steps : (last f x y g a b : ℕ) → f < 12 → g < 12 → x ≤ last → y ≤ last → a ≤ last → b ≤ last → SharesCorner (last + 1) f x y g a b → Steps last f x y g a b
 steps last f x y g a b hf hg hx hy ha hb (i, j, k, m, hi, hj, hk, hm, e) =

@@ -3,7 +3,7 @@ use Rattle.std.proofs.Common.{◌≡◌, ◌∙◌, ◌+◌, ◌-◌, ◌*◌, �
 use Rattle.std.proofs.lemmas.Bool.{cases_lt}
 use Rattle.std.proofs.lemmas.Bool.Decides.{nat_tests}
 use Rattle.std.proofs.Math.Nat.{add-mod_right}
-use Rattle.hx_base.specs.Touching.{ring, middle, place_on}
+use Rattle.hx_base.specs.Touching.{ring, middle, index_on}
 use Rattle.hx_nest.proofs.Sectors.{four, round}
 use Rattle.hx_nest.proofs.Table.{prev}
 
@@ -17,28 +17,28 @@ ring_1 n c x y h = let e : (4 + c) / 4 ≡ 1 = omega arith in rw e refl
 pub ring_2 : (n c x y : ℕ) → c < 4 → ring n (8 + c) x y ≡ 4 * n - x - y
 ring_2 n c x y h = let e : (8 + c) / 4 ≡ 2 = omega arith in rw e refl
 
--- the four cases of a place
-pub at_pole : (n f x y v : ℕ) → (v ≡ 0) ⊎ (v ≡ 4 * n) → place_on n f x y v ≡ 0
+-- the four cases of a spot
+pub at_pole : (n f x y v : ℕ) → (v ≡ 0) ⊎ (v ≡ 4 * n) → index_on n f x y v ≡ 0
 at_pole n f x y v h = grind (arith, nat_tests)
 
-pub in_north : (n f x y v : ℕ) → 0 < v → v < n → place_on n f x y v ≡ (f * v + (n - y)) % (4 * v)
+pub in_north : (n f x y v : ℕ) → 0 < v → v < n → index_on n f x y v ≡ (f * v + (n - y)) % (4 * v)
 in_north n f x y v pos small = grind (arith, nat_tests)
 
-pub in_south : (n f x y v : ℕ) → 3 * n < v → v < 4 * n → place_on n f x y v ≡ ((f - 8) * (4 * n - v) + x) % (4 * (4 * n - v))
+pub in_south : (n f x y v : ℕ) → 3 * n < v → v < 4 * n → index_on n f x y v ≡ ((f - 8) * (4 * n - v) + x) % (4 * (4 * n - v))
 in_south n f x y v low high = grind (arith, nat_tests)
 
-pub on_belt : (n f x y v : ℕ) → 0 < n → n ≤ v → v ≤ 3 * n → place_on n f x y v ≡ (middle f * n + 8 * n + x - y) % (8 * n)
+pub on_belt : (n f x y v : ℕ) → 0 < n → n ≤ v → v ≤ 3 * n → index_on n f x y v ≡ (middle f * n + 8 * n + x - y) % (8 * n)
 on_belt n f x y v pos low high = grind (arith, nat_tests)
 
--- a corner's place is a step of a sector
+-- a corner's spot is a step of a sector
 pub record IsSpot (n face x y v size c t : ℕ) : Type 0 where
-  pub place : place_on n face x y v ≡ round size c t
+  pub spot : index_on n face x y v ≡ round size c t
   pub within : t ≤ size
   pub sector : c < 4
 
 pub spot_north : (n c x y v : ℕ) → c < 4 → x ≤ n → y ≤ n → 0 < v → v < n → x + y + v ≡ 2 * n → IsSpot n c x y v v c (n - y)
 spot_north n c x y v h hx hy pos small e = record {
-  place = in_north n c x y v pos small;
+  spot = in_north n c x y v pos small;
   within = omega arith;
   sector = h;
 }
@@ -48,7 +48,7 @@ spot_south n c x y v w h pos small e f =
     let size : 4 * n - v ≡ w = omega arith in
     let column : 8 + c - 8 ≡ c = omega arith in
     record {
-      place = in_south n (8 + c) x y v (omega arith) (omega arith) ∙ rw (size, column) refl;
+      spot = in_south n (8 + c) x y v (omega arith) (omega arith) ∙ rw (size, column) refl;
       within = omega arith;
       sector = h;
     }
@@ -88,14 +88,14 @@ back_column n c x y h lt hy =
 
 pub spot_belt_0 : (n c x y v : ℕ) → c < 4 → 0 < n → x ≤ n → y ≤ n → n ≤ v → v ≤ 3 * n → x ≤ n + y → IsSpot n c x y v (2 * n) c (n + x - y)
 spot_belt_0 n c x y v h pos hx hy low high most = record {
-  place = on_belt n c x y v pos low high ∙ rw (middle_0 c h) (odd_column n c x y hx hy);
+  spot = on_belt n c x y v pos low high ∙ rw (middle_0 c h) (odd_column n c x y hx hy);
   within = omega arith;
   sector = h;
 }
 
 pub spot_belt_2 : (n c x y v : ℕ) → c < 4 → 0 < n → x ≤ n → y ≤ n → n ≤ v → v ≤ 3 * n → IsSpot n (8 + c) x y v (2 * n) c (n + x - y)
 spot_belt_2 n c x y v h pos hx hy low high = record {
-  place = on_belt n (8 + c) x y v pos low high ∙ rw (middle_2 c h) (odd_column n c x y hx hy);
+  spot = on_belt n (8 + c) x y v pos low high ∙ rw (middle_2 c h) (odd_column n c x y hx hy);
   within = omega arith;
   sector = h;
 }
@@ -108,6 +108,6 @@ pub data IsEquatorSpot (n c x y v : ℕ) : Type 0 where
 pub spot_belt_1 : (n c x y v : ℕ) → c < 4 → 0 < n → x ≤ n → y ≤ n → n ≤ v → v ≤ 3 * n → IsEquatorSpot n c x y v
 spot_belt_1 n c x y v h pos hx hy low high =
     elim (cases_lt x y) [
-      | inl lt ↦ west lt (record { place = on_belt n (4 + c) x y v pos low high ∙ rw (middle_1 c h) (back_column n c x y h lt hy); within = omega arith; sector = omega arith })
-      | inr le ↦ east le (record { place = on_belt n (4 + c) x y v pos low high ∙ rw (middle_1 c h) (even_column n c x y le); within = omega arith; sector = h })
+      | inl lt ↦ west lt (record { spot = on_belt n (4 + c) x y v pos low high ∙ rw (middle_1 c h) (back_column n c x y h lt hy); within = omega arith; sector = omega arith })
+      | inr le ↦ east le (record { spot = on_belt n (4 + c) x y v pos low high ∙ rw (middle_1 c h) (even_column n c x y le); within = omega arith; sector = h })
     ]

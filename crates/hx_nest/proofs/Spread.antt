@@ -11,7 +11,7 @@ pub digits_apart : ℕ → ℕ → ℕ → ℕ
 digits_apart t zero x = 0
 digits_apart t (suc m) x = digits_apart t m (x / 2 ^ t) * 2 ^ (t + t) + x % 2 ^ t
 
--- the places of such digits
+-- the spots of such digits
 pub places_of_digits : ℕ → ℕ → ℕ
 places_of_digits t zero = 0
 places_of_digits t (suc m) = places_of_digits t m * 2 ^ (t + t) + (2 ^ t - 1)
@@ -91,17 +91,17 @@ apart s (suc m) x =
     let rest = digits_apart (s + s) m (x / 2 ^ (s + s)) in
     let d = x % 2 ^ (s + s) in
     let small = two_below s x in
-    let places = places_of_digits s (double m) in
+    let spots = places_of_digits s (double m) in
     let ones = 2 ^ s - 1 in
     let shifted : (digits_apart (s + s) m (x / 2 ^ (s + s)) * 2 ^ (s + s + (s + s)) + x % 2 ^ (s + s)) * 2 ^ s ≡ digits_apart (s + s) m (x / 2 ^ (s + s)) * 2 ^ s * 2 ^ (s + s + (s + s)) + x % 2 ^ (s + s) * 2 ^ s = omega arith in
     let mask : (places_of_digits s (double m) * 2 ^ (s + s) + (2 ^ s - 1)) * 2 ^ (s + s) + (2 ^ s - 1) ≡ places_of_digits s (double m) * 2 ^ (s + s + (s + s)) + ((2 ^ s - 1) * 2 ^ (s + s) + (2 ^ s - 1)) = omega (arith, squared (s + s) (places_of_digits s (double m))) in
     let wide = squared (s + s) (digits_apart s (double m) (x / 2 ^ (s + s))) in
     let right : (digits_apart s (double m) (x / 2 ^ s / 2 ^ s) * 2 ^ (s + s) + x / 2 ^ s % 2 ^ s) * 2 ^ (s + s) + x % 2 ^ s ≡ digits_apart s (double m) (x / 2 ^ (s + s)) * 2 ^ (s + s + (s + s)) + (x % 2 ^ (s + s) / 2 ^ s * 2 ^ (s + s) + x % 2 ^ (s + s) % 2 ^ s) =
     rw (above_two s x, high_of_two s x, low_of_two s x) (omega (arith, wide)) in
-    ap (λ (k : ℕ). bit_and (bit_or (rest * 2 ^ (s + s + (s + s)) + d) k) ((places * 2 ^ (s + s) + ones) * 2 ^ (s + s) + ones)) shifted
-    ∙ ap (λ (k : ℕ). bit_and k ((places * 2 ^ (s + s) + ones) * 2 ^ (s + s) + ones)) (or_block (s + s + (s + s)) rest (rest * 2 ^ s) d (d * 2 ^ s) (four_below s d small) (shifted_below s d small))
+    ap (λ (k : ℕ). bit_and (bit_or (rest * 2 ^ (s + s + (s + s)) + d) k) ((spots * 2 ^ (s + s) + ones) * 2 ^ (s + s) + ones)) shifted
+    ∙ ap (λ (k : ℕ). bit_and k ((spots * 2 ^ (s + s) + ones) * 2 ^ (s + s) + ones)) (or_block (s + s + (s + s)) rest (rest * 2 ^ s) d (d * 2 ^ s) (four_below s d small) (shifted_below s d small))
     ∙ ap (λ (k : ℕ). bit_and (bit_or rest (rest * 2 ^ s) * 2 ^ (s + s + (s + s)) + bit_or d (d * 2 ^ s)) k) mask
-    ∙ and_block (s + s + (s + s)) (bit_or rest (rest * 2 ^ s)) places (bit_or d (d * 2 ^ s)) (ones * 2 ^ (s + s) + ones) (or_lt (s + s + (s + s)) d (d * 2 ^ s) (four_below s d small) (shifted_below s d small)) (masks_below s)
+    ∙ and_block (s + s + (s + s)) (bit_or rest (rest * 2 ^ s)) spots (bit_or d (d * 2 ^ s)) (ones * 2 ^ (s + s) + ones) (or_lt (s + s + (s + s)) d (d * 2 ^ s) (four_below s d small) (shifted_below s d small)) (masks_below s)
     ∙ ap (λ (k : ℕ). k * 2 ^ (s + s + (s + s)) + bit_and (bit_or d (d * 2 ^ s)) (ones * 2 ^ (s + s) + ones)) (apart s m (x / 2 ^ (s + s)))
     ∙ ap (λ (k : ℕ). digits_apart s (double m) (x / 2 ^ (s + s)) * 2 ^ (s + s + (s + s)) + k) (apart_once s d small)
     ∙ sym right
@@ -165,13 +165,13 @@ together s (suc m) x =
     let l = mod_below x (2 ^ s) (pow_pos s) in
     let whole : (digits_apart s (double m) (x / 2 ^ s / 2 ^ s) * 2 ^ (s + s) + x / 2 ^ s % 2 ^ s) * 2 ^ (s + s) + x % 2 ^ s ≡ digits_apart s (double m) (x / 2 ^ s / 2 ^ s) * 2 ^ (s + s + (s + s)) + (x / 2 ^ s % 2 ^ s * 2 ^ (s + s) + x % 2 ^ s) =
     omega (arith, squared (s + s) (digits_apart s (double m) (x / 2 ^ s / 2 ^ s))) in
-    let places = places_of_digits (s + s) m in
+    let spots = places_of_digits (s + s) m in
     let ones = 2 ^ (s + s) - 1 in
     let spill = D % 2 ^ s * 2 ^ (s + s + s) + hi * 2 ^ s in
-    ap (λ (k : ℕ). bit_and (bit_or k (k / 2 ^ s)) (places * 2 ^ (s + s + (s + s)) + ones)) whole
-    ∙ ap (λ (k : ℕ). bit_and (bit_or (D * 2 ^ (s + s + (s + s)) + (hi * 2 ^ (s + s) + lo)) k) (places * 2 ^ (s + s + (s + s)) + ones)) (shifted_down s D hi lo h l)
-    ∙ ap (λ (k : ℕ). bit_and k (places * 2 ^ (s + s + (s + s)) + ones)) (or_block (s + s + (s + s)) D (D / 2 ^ s) (hi * 2 ^ (s + s) + lo) spill (both_below s D hi lo h l) (spilled_below s D hi lo h l))
-    ∙ and_block (s + s + (s + s)) (bit_or D (D / 2 ^ s)) places (bit_or (hi * 2 ^ (s + s) + lo) spill) ones (or_lt (s + s + (s + s)) (hi * 2 ^ (s + s) + lo) spill (both_below s D hi lo h l) (spilled_below s D hi lo h l)) (mask_below (s + s))
+    ap (λ (k : ℕ). bit_and (bit_or k (k / 2 ^ s)) (spots * 2 ^ (s + s + (s + s)) + ones)) whole
+    ∙ ap (λ (k : ℕ). bit_and (bit_or (D * 2 ^ (s + s + (s + s)) + (hi * 2 ^ (s + s) + lo)) k) (spots * 2 ^ (s + s + (s + s)) + ones)) (shifted_down s D hi lo h l)
+    ∙ ap (λ (k : ℕ). bit_and k (spots * 2 ^ (s + s + (s + s)) + ones)) (or_block (s + s + (s + s)) D (D / 2 ^ s) (hi * 2 ^ (s + s) + lo) spill (both_below s D hi lo h l) (spilled_below s D hi lo h l))
+    ∙ and_block (s + s + (s + s)) (bit_or D (D / 2 ^ s)) spots (bit_or (hi * 2 ^ (s + s) + lo) spill) ones (or_lt (s + s + (s + s)) (hi * 2 ^ (s + s) + lo) spill (both_below s D hi lo h l) (spilled_below s D hi lo h l)) (mask_below (s + s))
     ∙ ap (λ (k : ℕ). k * 2 ^ (s + s + (s + s)) + bit_and (bit_or (hi * 2 ^ (s + s) + lo) spill) ones) (together s m (x / 2 ^ s / 2 ^ s))
     ∙ ap (λ (k : ℕ). digits_apart (s + s) m (x / 2 ^ s / 2 ^ s) * 2 ^ (s + s + (s + s)) + k) (joined s D hi lo h l ∙ sym (mod-pow-add x s s))
     ∙ ap (λ (k : ℕ). digits_apart (s + s) m k * 2 ^ (s + s + (s + s)) + x % 2 ^ (s + s)) (above_two s x)
@@ -191,13 +191,13 @@ apart_below t (suc m) x =
 
 -- one step of each kind, as the code makes it
 pub step_apart : (s m b x mask : ℕ) → b ≡ digits_apart (s + s) (suc m) x → s + s + m * (s + s + (s + s)) + s ≤ 64 → mask ≡ places_of_digits s (double (suc m)) → bit_and (bit_or b (b * 2 ^ s % 2 ^ 64)) mask ≡ digits_apart s (double (suc m)) x
-step_apart s m b x mask is fits places =
+step_apart s m b x mask is fits spots =
     let small : b < 2 ^ (s + s + m * (s + s + (s + s))) = rw is (apart_below (s + s) m x) in
     let kept : b * 2 ^ s % 2 ^ 64 ≡ b * 2 ^ s = shl_whole b (s + s + m * (s + s + (s + s))) s 64 small fits in
-    rw (kept, places, is) (apart s (suc m) x)
+    rw (kept, spots, is) (apart s (suc m) x)
 
 pub step_together : (s m b x mask : ℕ) → b ≡ digits_apart s (double m) x → mask ≡ places_of_digits (s + s) m → bit_and (bit_or b (b / 2 ^ s)) mask ≡ digits_apart (s + s) m x
-step_together s m b x mask is places = rw (is, places) (together s m x)
+step_together s m b x mask is spots = rw (is, spots) (together s m x)
 
 -- the masks of the code
 pub masks : (places_of_digits 16 2 ≡ 0x0000_FFFF_0000_FFFF) × (places_of_digits 8 4 ≡ 0x00FF_00FF_00FF_00FF) × (places_of_digits 4 8 ≡ 0x0F0F_0F0F_0F0F_0F0F) × (places_of_digits 2 16 ≡ 0x3333_3333_3333_3333) × (places_of_digits 1 32 ≡ 0x5555_5555_5555_5555) × (places_of_digits 32 1 ≡ 0xFFFF_FFFF)
@@ -215,18 +215,18 @@ unfolding digits_apart
 bits_apart zero x = refl
 bits_apart (suc m) x = omega (arith, bits_apart m (x / 2))
 
-even_places : (m p : ℕ) → bit_and p (places_of_digits 1 m) ≡ digits_apart 1 m (even_bits m p)
+even_digits : (m p : ℕ) → bit_and p (places_of_digits 1 m) ≡ digits_apart 1 m (even_bits m p)
 unfolding digits_apart places_of_digits even_bits
-even_places zero p = omega (arith, and_le_r p 0)
-even_places (suc m) p =
+even_digits zero p = omega (arith, and_le_r p 0)
+even_digits (suc m) p =
     let whole : p ≡ p / 4 * 2 ^ 2 + p % 4 = omega arith in
     let one : bit_and (p % 4) 1 ≡ p % 2 = and_mask (p % 4) 1 ∙ omega arith in
     let half : (p % 2 + 2 * even_bits m (p / 4)) / 2 ≡ even_bits m (p / 4) = omega arith in
     let last : (p % 2 + 2 * even_bits m (p / 4)) % 2 ≡ p % 2 = omega arith in
-    ap (λ (k : ℕ). bit_and k (places_of_digits 1 m * 4 + 1)) whole ∙ and_block 2 (p / 4) (places_of_digits 1 m) (p % 4) 1 (omega arith) (omega arith) ∙ rw (one, even_places m (p / 4), half, last) refl
+    ap (λ (k : ℕ). bit_and k (places_of_digits 1 m * 4 + 1)) whole ∙ and_block 2 (p / 4) (places_of_digits 1 m) (p % 4) 1 (omega arith) (omega arith) ∙ rw (one, even_digits m (p / 4), half, last) refl
 
 pub step_even : (m p mask : ℕ) → mask ≡ places_of_digits 1 m → bit_and p mask ≡ digits_apart 1 m (even_bits m p)
-step_even m p mask places = rw places (even_places m p)
+step_even m p mask spots = rw spots (even_digits m p)
 
 -- the higher bits of small numbers are 0
 no_bits : (m : ℕ) → interleave m 0 0 ≡ 0
@@ -252,7 +252,7 @@ same_below m k x y le hx hy = let e : m ≡ k + (m - k) = omega arith in ap (λ 
 pub spread_at : (m k x : ℕ) → k ≤ m → x < 2 ^ k → digits_apart 1 m x ≡ interleave k x 0
 spread_at m k x le small = bits_apart m x ∙ same_below m k x 0 le small (pow_pos k)
 
--- bits at even places and bits at odd places
+-- bits at even digits and bits at odd digits
 apart_bits : (m x y : ℕ) → bit_and (interleave m x 0) (interleave m y 0 * 2) ≡ 0
 apart_bits zero x y = omega (arith, and_le_r 0 (0 * 2))
 apart_bits (suc m) x y =

@@ -11,7 +11,7 @@ prev c = (c + 3) % 4
 abbrev pub opposite : ℕ → ℕ
 opposite c = (c + 2) % 4
 
--- a place at a side of a face becomes (a, b) of another face
+-- a spot at a side of a face becomes (a, b) of another face
 abbrev pub Crosses : ℕ → Side → ℕ → ℕ → ℕ → ℕ → ℕ → ℕ → Type 0
 Crosses last side face x y other a b = (slice_index (faces_beyond side) face ≡ other) × (beyond last side face x y ≡ (a, b))
 

@@ -3,7 +3,7 @@ use Rattle.std.proofs.Common.{[], length, ◌≡◌, ◌≢◌, ◌∙◌, ◌==
 use Rattle.std.specs.List.{Contains}
 use Rattle.std.proofs.lemmas.Bool.{cases_eq, ne_eqb}
 use Rattle.hx_base.specs.Touching.{IsAt, HasCorner, Touch, corner_point}
-use Rattle.hx_nest.specs.declared.place.FaceXy.{FaceXy}
+use Rattle.hx_nest.specs.declared.spot.FaceXy.{FaceXy}
 use Rattle.hx_nest.specs.declared.step.Coordinate.{Coordinate}
 use Rattle.hx_nest.specs.declared.step.Coordinate.TheVariants.{Below, Within, Above}
 use Rattle.hx_nest.specs.Lists.{Adds}
@@ -11,12 +11,12 @@ use Rattle.hx_nest.specs.Steps.{AddsStep, HasPlace, IsNear, pixel_at, before, af
 use Rattle.hx_nest.proofs.Interleaved.{one_place}
 use Rattle.hx_nest.proofs.Reached.{IsOwn, SharesCorner, Steps, leads, steps}
 
--- touching, by the places of the pixels
+-- touching, by the spots of the pixels
 pub touch_from : (k p q f x y g a b : ℕ) → IsAt k p f x y → IsAt k q g a b → p ≢ q → SharesCorner (2 ^ k) f x y g a b → Touch k p q
 touch_from k p q f x y g a b here there ne (i, j, l, m, hi, hj, hl, hm, e) =
     record { different = ne; shared = (corner_point (2 ^ k) f (x + i) (y + j), (f, x, y, i, j, here, hi, hj, refl), (g, a, b, l, m, there, hl, hm, sym e)) }
 
--- a pixel that touches one at a known place
+-- a pixel that touches one at a known spot
 pub record TouchesAt (k q f x y : ℕ) : Type 0 where
   pub face : ℕ
   pub a : ℕ
@@ -37,7 +37,7 @@ touch_at k p q f x y here touch =
 pub below_power : (k last x : ℕ) → last + 1 ≡ 2 ^ k → x < 2 ^ k → x ≤ last
 below_power k last x e h = omega arith
 
--- a pixel with a place is added by its number
+-- a pixel with a spot is added by its number
 pub step_added : (k r : ℕ) (at : FaceXy) (o : Option FaceXy) (old new : List ℕ) → Some at ≡ o → IsAt k r at.face at.x at.y → Adds r old new → AddsStep k o old new
 step_added k r at o old new is here adds =
     let numbered : (q : ℕ) → IsAt k q at.face at.x at.y → q ≡ r = λ q there. there.number ∙ sym here.number in
@@ -114,8 +114,8 @@ same_pixel k p q f x y g a b last px py here there e ex ey =
     let its : FaceXy = record { face = g; x = a; y = b } in
     let o : Some mine ≡ pixel_at last f px py = rw (ex, ey) refl in
     let same : mine ≡ its = cc in
-    let place = subst (λ (z : FaceXy). IsAt k q z.face z.x z.y) (sym same) there in
-    here.number ∙ sym place.number
+    let spot = subst (λ (z : FaceXy). IsAt k q z.face z.x z.y) (sym same) there in
+    here.number ∙ sym spot.number
 
 module _ (k p f x y last : ℕ) (here : IsAt k p f x y) (size : last + 1 ≡ 2 ^ k) where
   hx : x ≤ last
@@ -136,8 +136,8 @@ module _ (k p f x y last : ℕ) (here : IsAt k p f x y) (size : last + 1 ≡ 2 ^
           let shares = subst (λ (n : ℕ). SharesCorner n f x y at.face at.x at.y) size reached.shares in
           touch_from k p q f x y at.face at.x at.y here there
           (λ same.
-          let place = one_place k q at.face at.x at.y f x y there (subst (λ (z : ℕ). IsAt k z f x y) same here) in
-          reached.other place.0 (place.1, place.2)) shares
+          let spot = one_place k q at.face at.x at.y f x y there (subst (λ (z : ℕ). IsAt k z f x y) same here) in
+          reached.other spot.0 (spot.1, spot.2)) shares
 
   -- a pixel that touches is where a step leads
   pub record IsStep (q : ℕ) : Type 0 where
@@ -146,7 +146,7 @@ module _ (k p f x y last : ℕ) (here : IsAt k p f x y) (size : last + 1 ≡ 2 ^
     pub near_x : IsNear last x px
     pub near_y : IsNear last y py
     pub moved : px ≡ Within x → py ≡ Within y → ⊥
-    pub place : HasPlace k (pixel_at last f px py) q
+    pub spot : HasPlace k (pixel_at last f px py) q
 
   touches_step : (q : ℕ) → Touch k p q → IsStep q
   touches_step q touch =
@@ -161,7 +161,7 @@ module _ (k p f x y last : ℕ) (here : IsAt k p f x y) (size : last + 1 ≡ 2 ^
         near_x = nx;
         near_y = ny;
         moved = λ ex ey. touch.different (same_pixel k p q f x y g a b last px py here there e ex ey);
-        place = subst (λ (z : Option FaceXy). HasPlace k z q) (sym e) there;
+        spot = subst (λ (z : Option FaceXy). HasPlace k z q) (sym e) there;
       }
 
 -- what a list holds after a step
@@ -282,4 +282,4 @@ module _ (k p f x y last : ℕ) (here : IsAt k p f x y) (size : last + 1 ≡ 2 ^
   pub touching_are_members : (q : ℕ) → Touch k p q → Contains l8 q
   touching_are_members q touch =
       let s = touches_step k p f x y last here size q touch in
-      at_step s.px s.py q s.moved s.place (rw (is_bx, is_ax) (three last x s.px s.near_x (hx k p f x y last here size))) (rw (is_by, is_ay) (three last y s.py s.near_y (hy k p f x y last here size)))
+      at_step s.px s.py q s.moved s.spot (rw (is_bx, is_ax) (three last x s.px s.near_x (hx k p f x y last here size))) (rw (is_by, is_ay) (three last y s.py s.near_y (hy k p f x y last here size)))

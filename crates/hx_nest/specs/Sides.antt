@@ -1,4 +1,4 @@
--- The usual table of faces by sides, and where a place at a side comes to on the face beyond it.
+-- The usual table of faces by sides, and where a spot at a side comes to on the face beyond it.
 use Rattle.std.specs.Prelude.{◌≡◌, ◌⊎◌, List, [], ◌∷◌, ℕ, if◌then◌else◌, nat_lt, slice_index}
 use Rattle.hx_nest.specs.declared.side.Side.{Side}
 use Rattle.hx_nest.specs.declared.side.Side.TheVariants.{South, SouthEast, East, SouthWest, NorthEast, West, NorthWest, North}
@@ -43,7 +43,7 @@ pub record AreJoined (n face x y other a b : ℕ) : Type 0 where
   pub side : Side
   pub on_side : LiesOn n side x y
   pub joined : slice_index (faces_beyond side) face ≡ other
-  pub place : beyond n side face x y ≡ (a, b)
+  pub spot : beyond n side face x y ≡ (a, b)
 
 -- two corners of faces are the same one, or the table joins them
 abbrev pub AreOneCorner : ℕ → ℕ → ℕ → ℕ → ℕ → ℕ → ℕ → Type 0

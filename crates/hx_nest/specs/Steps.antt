@@ -1,6 +1,6 @@
 -- Steps of a coordinate by one, and the pixel that they lead to.
 use Rattle.std.specs.Prelude.{◌≡◌, ◌==◌, ◌↔◌, ◌⊎◌, ◌+◌, ◌-◌, ◌<◌, ◌≤◌, ℕ, List, Contains, length, Option, Some, None, if◌then◌else◌, slice_index}
-use Rattle.hx_nest.specs.declared.place.FaceXy.{FaceXy}
+use Rattle.hx_nest.specs.declared.spot.FaceXy.{FaceXy}
 use Rattle.hx_nest.specs.declared.side.Side.{Side}
 use Rattle.hx_nest.specs.declared.side.Side.TheVariants.{South, SouthEast, East, SouthWest, NorthEast, West, NorthWest, North}
 use Rattle.hx_nest.specs.declared.step.Coordinate.{Coordinate}
@@ -39,13 +39,13 @@ pixel_at last face Below Above = across last West face 0 last
 pixel_at last face (Within x) Above = across last NorthWest face x last
 pixel_at last face Above Above = across last North face last last
 
--- a place on a grid
+-- a spot on a grid
 pub record IsOnGrid (last : ℕ) (at : FaceXy) : Type 0 where
   pub face_range : at.face < 12
   pub x_range : at.x ≤ last
   pub y_range : at.y ≤ last
 
--- a pixel has the number of a place, if there is one
+-- a pixel has the number of a spot, if there is one
 abbrev pub HasPlace : ℕ → Option FaceXy → ℕ → Type 0
 HasPlace order None pixel = ⊥
 HasPlace order (Some at) pixel = IsAt order pixel at.face at.x at.y

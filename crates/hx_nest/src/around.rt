@@ -23,7 +23,7 @@ impl Model for Around {
 }
 
 // How many of the ascending pixels are below one.
-fn place_of(pixels: &[u64], pixel: u64) -> usize
+fn index_of(pixels: &[u64], pixel: u64) -> usize
     requires { Ascends pixels.now }
     ensures within { result ≤ length pixels.now }
     ensures before { AllWithin (λ other. other < pixel) pixels.now 0 result }
@@ -32,14 +32,14 @@ fn place_of(pixels: &[u64], pixel: u64) -> usize
     pixels.partition_point(|&other| other < pixel)
 }
 
-// Puts a pixel at a place of the first ones, and those from there on one place later.
-fn put_at(pixels: &mut [u64; 8], count: usize, place: usize, pixel: u64)
+// Puts a pixel at a index of the first ones, and those from there on one index later.
+fn put_at(pixels: &mut [u64; 8], count: usize, index: usize, pixel: u64)
     requires room { count < 8 }
-    requires place { place ≤ count }
-    ensures { take (count + 1) pixels.new ≡ insert (take count pixels.old) place pixel }
+    requires index { index ≤ count }
+    ensures { take (count + 1) pixels.new ≡ insert (take count pixels.old) index pixel }
 {
     pixels[count] = pixel;
-    pixels[place..count + 1].rotate_right(1);
+    pixels[index..count + 1].rotate_right(1);
 }
 
 impl Around {
@@ -52,16 +52,16 @@ impl Around {
         }
     }
 
-    // Puts a pixel at its place, if it isn't there already.
+    // Puts a pixel at its index, if it isn't there already.
     pub(crate) fn insert(&mut self, pixel: u64)
         requires ascending { Ascends self.old }
         requires room { length self.old < 8 }
         ensures { Adds pixel self.old self.new }
     {
         let count = self.count as usize;
-        let place = place_of(&self.pixels[..count], pixel);
-        if place == count || self.pixels[place] != pixel {
-            put_at(&mut self.pixels, count, place, pixel);
+        let index = index_of(&self.pixels[..count], pixel);
+        if index == count || self.pixels[index] != pixel {
+            put_at(&mut self.pixels, count, index, pixel);
             self.count += 1;
         }
     }

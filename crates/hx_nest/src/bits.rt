@@ -1,4 +1,4 @@
-//! Bits set apart to the even places of a number and moved together again, half a block at a time.
+//! Bits set apart to the even digits of a number and moved together again, half a block at a time.
 ghost use Rattle.std.specs.Prelude.{◌≡◌, ◌^◌, ◌<◌, ◌≤◌, ℕ};
 ghost use Rattle.hx_base.specs.Touching.{interleave};
 ghost use Rattle.hx_nest.specs.Bits.{even_bits};
@@ -14,7 +14,7 @@ const BLOCKS_OF_2: u64 = 0x3333_3333_3333_3333;
 
 const EVEN_BITS: u64 = 0x5555_5555_5555_5555;
 
-/// The number that has the bits of x at its even places.
+/// The number that has the bits of x at its even digits.
 pub fn spread(x: u32) -> u64
     ensures { (k : ℕ) → k ≤ 32 → x < 2 ^ k → result ≡ interleave k x 0 }
 {
@@ -26,7 +26,7 @@ pub fn spread(x: u32) -> u64
     (bits | bits << 1) & EVEN_BITS
 }
 
-/// The bits at the even places of a number.
+/// The bits at the even digits of a number.
 pub fn gathered(number: u64) -> u32
     ensures { (k : ℕ) → k ≤ 32 → number < 4 ^ k → result ≡ even_bits k number }
 {

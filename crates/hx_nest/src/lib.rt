@@ -5,15 +5,18 @@ mod around;
 mod bits;
 mod laws;
 mod order;
-mod place;
 mod side;
+mod spot;
 mod step;
 #[cfg(test)]
 mod tests;
 mod touching;
 
 pub use around::Around;
-pub use laws::{corners_of_faces, parents_of_touching, places_of_pixels, touching_is_symmetric};
+pub use laws::{
+    ancestors_of_touching, corners_of_faces, parents_of_touching, spots_of_pixels,
+    touching_is_symmetric,
+};
 pub use order::{at_order, first_child, parent};
-pub use place::{FaceXy, join_xy, split};
+pub use spot::{FaceXy, join_xy, split};
 pub use touching::{neighbours, touch};

@@ -2,6 +2,8 @@
 ghost use Rattle.std.specs.Prelude.{◌≡◌, ◌*◌, ◌/◌, ◌^◌, ◌<◌, ◌≤◌};
 ghost use Rattle.hx_base.specs.Pixels.{pixel_of};
 
+use hx_base::Pixel;
+
 /// The pixel of the order before that a pixel lies in. One of order 0 has no parent.
 pub fn parent(p: u64) -> u64
     ensures { result ≡ p / 4 }
@@ -25,5 +27,5 @@ pub fn at_order(hp: u64, k: u8) -> u64
     ensures value { result ≡ pixel_of k hp }
     ensures range { result < 12 * 4 ^ k }
 {
-    hp >> (2 * (29 - k))
+    Pixel::holding(k, hp).number
 }

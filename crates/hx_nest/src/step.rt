@@ -3,8 +3,8 @@ ghost use Rattle.std.specs.Prelude.{◌≡◌, ◌≢◌, ◌<◌, ◌≤◌, �
 ghost use Rattle.hx_nest.specs.Sides.{beyond};
 ghost use Rattle.hx_nest.specs.Steps.{IsNear, across, after, before, pixel_at};
 
-use crate::place::FaceXy;
 use crate::side::{NONE, Side};
+use crate::spot::FaceXy;
 
 /// A coordinate on a face, or the end of the face that a step leaves by.
 #[derive(Clone, Copy, Debug, PartialEq, Eq)]

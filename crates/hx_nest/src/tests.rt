@@ -5,7 +5,7 @@ ghost use Rattle.hx_base.specs.Touching.{corner_point};
 use super::*;
 use std::process::Abort;
 
-// The point of corner (x, y) of a face: its ring, and its place on the ring.
+// The point of corner (x, y) of a face: its ring, and its index on the ring.
 fn point(n: u64, face: u64, x: u64, y: u64) -> (u64, u64)
     requires n { n ≤ 2 ^ 29 }
     requires face { face < 12 }
@@ -14,7 +14,7 @@ fn point(n: u64, face: u64, x: u64, y: u64) -> (u64, u64)
     ensures { result ≡ corner_point n face x y }
 {
     let ring = (2 + face / 4) * n - x - y;
-    let place = if ring == 0 || ring == 4 * n {
+    let index = if ring == 0 || ring == 4 * n {
         0
     } else if ring < n {
         (face * ring + (n - y)) % (4 * ring)
@@ -24,7 +24,7 @@ fn point(n: u64, face: u64, x: u64, y: u64) -> (u64, u64)
         let middle = 2 * (face % 4) + (face / 4 + 1) % 2;
         (middle * n + 8 * n + x - y) % (8 * n)
     };
-    (ring, place)
+    (ring, index)
 }
 
 // Whether a point is a corner of a pixel.
@@ -50,7 +50,7 @@ fn has_corner(n: u64, at: FaceXy, corner: (u64, u64)) -> bool
     false
 }
 
-// Whether two places on faces of n * n pixels are different and have a corner in common.
+// Whether two spots on faces of n * n pixels are different and have a corner in common.
 fn plainly_touch(n: u64, a: FaceXy, b: FaceXy) -> bool
     requires n { n ≤ 2 ^ 29 }
     requires left_face { a.face < 12 }

@@ -5,7 +5,7 @@ ghost use Rattle.hx_nest.specs.Lists.{Ascends};
 ghost use Rattle.hx_nest.specs.Steps.{AddsStep, IsNear, IsOnGrid, pixel_at};
 
 use crate::around::Around;
-use crate::place::{FaceXy, join_xy, split};
+use crate::spot::{FaceXy, join_xy, split};
 use crate::step::{Coordinate, after, before, pixel_at};
 
 // The greatest coordinate on a face.

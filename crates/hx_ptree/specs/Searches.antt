@@ -2,7 +2,7 @@
 use Rattle.std.specs.Prelude.{◌≡◌, ◌+◌, ◌<◌, ◌≤◌, ◌⊎◌, ◌↔◌, ℕ, List, Option, Some, None, All, length, slice_get}
 use Rattle.hx_base.specs.declared.pixel.Pixel.{Pixel}
 use Rattle.hx_base.specs.Limits.{most_partitions}
-use Rattle.hx_base.specs.Pixels.{AreDisjointInOrder, HoldsPlace, LiesIn, end_place, first_place}
+use Rattle.hx_base.specs.Pixels.{AreDisjointInOrder, HoldsPosition, LiesIn, end_position, first_position}
 
 -- what the partitions of a catalogue keep
 pub record IsPartitionList (pixels : List Pixel) : Type 0 where
@@ -11,8 +11,8 @@ pub record IsPartitionList (pixels : List Pixel) : Type 0 where
 
 -- the index of the partition that holds a position, or none where none holds it
 abbrev pub IsHolder : List Pixel → ℕ → Option ℕ → Type 0
-IsHolder pixels place (Some index) = (part : Pixel) × (slice_get pixels index ≡ Some part) × HoldsPlace part place
-IsHolder pixels place None = All (λ part. ¬ (HoldsPlace part place)) pixels
+IsHolder pixels position (Some index) = (part : Pixel) × (slice_get pixels index ≡ Some part) × HoldsPosition part position
+IsHolder pixels position None = All (λ part. ¬ (HoldsPosition part position)) pixels
 
 -- one of two pixels lies in the other
 abbrev pub Overlaps : Pixel → Pixel → Type 0
@@ -21,7 +21,7 @@ Overlaps a b = LiesIn a b ⊎ LiesIn b a
 -- `count` partitions overlap a pixel, from index `first` on; those below `first` are the ones that end at or before its first position
 pub record IsSpan (pixels : List Pixel) (pixel : Pixel) (first count : ℕ) : Type 0 where
   pub within : first + count ≤ length pixels
-  pub before : (index : ℕ) (part : Pixel) → slice_get pixels index ≡ Some part → (index < first) ↔ (end_place part ≤ first_place pixel)
+  pub before : (index : ℕ) (part : Pixel) → slice_get pixels index ≡ Some part → (index < first) ↔ (end_position part ≤ first_position pixel)
   pub overlapping : (index : ℕ) (part : Pixel) → slice_get pixels index ≡ Some part → ((first ≤ index) × (index < first + count)) ↔ Overlaps part pixel
 
 -- what holds of two members of a list holds of all between them

@@ -7,5 +7,5 @@ mod search;
 mod tests;
 mod tree;
 
-pub use laws::ranges_of_partitions;
+pub use laws::overlaps_are_consecutive;
 pub use tree::{PixelTree, Span};

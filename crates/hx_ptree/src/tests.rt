@@ -2,19 +2,12 @@ ghost use Rattle.std.specs.Prelude.{◌≡◌, ◌*◌, ◌^◌, ◌<◌, ◌↔
 ghost use Rattle.hx_base.specs.Pixels.{IsPixel};
 ghost use Rattle.hx_ptree.specs.Searches.{IsPartitionList};
 
-use crate::search::{first_place, last_place};
 use crate::{PixelTree, Span};
 use hx_base::Pixel;
 use std::alloc::{AllocError, Global};
 use std::cmp::Ordering;
 use std::process::Abort;
 use std::test::Fail;
-
-fn exists(pixel: Pixel) -> bool
-    ensures { IsTrue result ↔ IsPixel pixel }
-{
-    pixel.order <= 29 && pixel.number >> (2 * pixel.order) < 12
-}
 
 // The pixels of a list that exist and begin at or behind the end of the one before.
 fn parts_of(alloc: Global, listed: &[(u8, u64)]) -> Result<Vec<Pixel>, AllocError>
@@ -27,9 +20,9 @@ fn parts_of(alloc: Global, listed: &[(u8, u64)]) -> Result<Vec<Pixel>, AllocErro
             order: *order,
             number: *number,
         };
-        if parts.len() < 100_000 && exists(pixel) && end <= first_place(pixel) {
+        if parts.len() < 100_000 && pixel.exists() && end <= pixel.first_position() {
             parts.push(pixel)?;
-            end = last_place(pixel) + 1;
+            end = pixel.end_position();
         }
     }
     Ok(parts)
@@ -40,10 +33,10 @@ fn tree_of(alloc: Global, listed: &[(u8, u64)]) -> Result<PixelTree, AllocError>
     PixelTree::build(alloc, &parts)
 }
 
-fn check_holder(rt: &impl Abort, tree: &PixelTree, place: u64, holder: Option<u32>)
-    requires { place < 12 * 4 ^ 29 }
+fn check_holder(rt: &impl Abort, tree: &PixelTree, position: u64, holder: Option<u32>)
+    requires { position < 12 * 4 ^ 29 }
 {
-    assert_eq!(rt; tree.holder(place), holder, "at {place}");
+    assert_eq!(rt; tree.holder(position), holder, "at {position}");
 }
 
 fn check_spans(rt: &impl Abort, tree: &PixelTree, cases: &[((u8, u64), (u32, u32))]) {
@@ -52,7 +45,7 @@ fn check_spans(rt: &impl Abort, tree: &PixelTree, cases: &[((u8, u64), (u32, u32
             order: *order,
             number: *number,
         };
-        assert!(rt; exists(pixel));
+        assert!(rt; pixel.exists());
         let span = Span {
             first: *first,
             count: *count,
@@ -144,23 +137,23 @@ fn scanned(parts: &[Pixel], pixel: Pixel) -> Span {
 }
 
 // Whether the search for a position's partition finds what the loop finds.
-fn holder_agrees(tree: &PixelTree, parts: &[Pixel], place: u64) -> bool
-    requires { place < 12 * 4 ^ 29 }
+fn holder_agrees(tree: &PixelTree, parts: &[Pixel], position: u64) -> bool
+    requires { position < 12 * 4 ^ 29 }
 {
     let pixel = Pixel {
         order: 29,
-        number: place,
+        number: position,
     };
     let span = scanned(parts, pixel);
-    tree.holder(place) == (span.count == 1).then_some(span.first)
+    tree.holder(position) == (span.count == 1).then_some(span.first)
 }
 
 // Whether both searches find for a pixel, and for its first and last position, what the loop finds.
 fn agrees(tree: &PixelTree, parts: &[Pixel], pixel: Pixel) -> bool
     requires { IsPixel pixel }
 {
-    let first = first_place(pixel);
-    let last = last_place(pixel);
+    let first = pixel.first_position();
+    let last = pixel.end_position() - 1;
     let holders = holder_agrees(tree, parts, first) && holder_agrees(tree, parts, last);
     holders && tree.overlapping(pixel) == scanned(parts, pixel)
 }
@@ -169,13 +162,13 @@ fn agrees(tree: &PixelTree, parts: &[Pixel], pixel: Pixel) -> bool
 fn random_pixels(alloc: Global, seed: u64) -> Result<Vec<(u8, u64)>, AllocError> {
     let mut pixels = Vec::new(alloc);
     let mut state = seed;
-    for place in 0..3072 {
+    for position in 0..3072 {
         state = state
             .wrapping_mul(6_364_136_223_846_793_005)
             .wrapping_add(1_442_695_040_888_963_407);
         let order = ((state >> 33) % 5) as u8;
         if (state >> 40) % 4 == 0 {
-            pixels.push((order, place >> (8 - 2 * order)))?;
+            pixels.push((order, position >> (8 - 2 * order)))?;
         }
     }
     Ok(pixels)
@@ -192,7 +185,7 @@ fn searches_find_what_a_loop_finds(rt: HostRuntime) -> Result<(), Fail> {
             for number in 0..768 {
                 let pixel = Pixel { order, number };
                 assert!(&rt;
-                    !exists(pixel) || agrees(&tree, &parts, pixel),
+                    !pixel.exists() || agrees(&tree, &parts, pixel),
                     "at {order}, {number}"
                 );
             }

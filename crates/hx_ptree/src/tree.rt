@@ -4,7 +4,7 @@ ghost use Rattle.hx_base.specs.Limits.{most_partitions};
 ghost use Rattle.hx_base.specs.Pixels.{AreDisjointInOrder, IsPixel};
 ghost use Rattle.hx_ptree.specs.Searches.{IsHolder, IsPartitionList, IsSpan};
 
-use crate::search::{count_before, count_begun, first_place, holds, last_place};
+use crate::search::{count_before, count_begun};
 use hx_base::Pixel;
 use std::alloc::{AllocError, Global};
 use std::marker::Model;
@@ -17,7 +17,7 @@ pub struct Span {
 }
 
 /// The partitions of a catalogue, to be searched: at most 100000, of which no two share a position, by their first
-/// order-29 positions. It is seen as the list of its pixels.
+/// positions. It is seen as the list of its pixels.
 ///
 /// A search looks at a number of partitions that grows with the logarithm of all, and takes no memory.
 #[derive(Drop)]
@@ -48,7 +48,7 @@ impl PixelTree {
         Ok(PixelTree { parts })
     }
 
-    /// The index of the partition that holds an order-29 position, or none where none holds it.
+    /// The index of the partition that holds a position, or none where none holds it.
     pub fn holder(&self, hp: u64) -> Option<u32>
         requires { hp < 12 * 4 ^ 29 }
         ensures holder { IsHolder self.now hp result }
@@ -57,7 +57,7 @@ impl PixelTree {
         let parts = self.parts.as_slice();
         let index = count_before(parts, hp);
         let part = parts.get(index)?;
-        holds(*part, hp).then_some(index as u32)
+        part.holds(hp).then_some(index as u32)
     }
 
     /// The partitions that lie in a pixel or in which it lies. Where there are none, `first` is the number of the
@@ -68,8 +68,8 @@ impl PixelTree {
         ensures list { IsPartitionList self.now }
     {
         let parts = self.parts.as_slice();
-        let first = count_before(parts, first_place(pixel));
-        let end = count_begun(parts, last_place(pixel));
+        let first = count_before(parts, pixel.first_position());
+        let end = count_begun(parts, pixel.end_position() - 1);
         Span {
             first: first as u32,
             count: (end - first) as u32,

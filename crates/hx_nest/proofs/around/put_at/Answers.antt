@@ -3,4 +3,4 @@ use Rattle.hx_nest.proofs.Lists.{put}
 use Rattle.hx_nest.proofs.around.put_at.Goals as goal
 
 pub returns : goal.returns
-returns c = put c.args.pixels.now c.rotate_right.new.self c.args.count c.args.place c.args.pixel (omega arith) c.requires.place c.rotate_right.ensures.after
+returns c = put c.args.pixels.now c.rotate_right.new.self c.args.count c.args.index c.args.pixel (omega arith) c.requires.index c.rotate_right.ensures.after

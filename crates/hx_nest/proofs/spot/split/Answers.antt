@@ -1,6 +1,6 @@
 use Rattle.std.proofs.Common.{◌-◌, ◌*◌, ◌%◌, ◌^◌, ◌<◌, ◌≤◌, arith}
 use Rattle.hx_nest.proofs.Interleaved.{face_below, rest_below, shifted_back, whole}
-use Rattle.hx_nest.proofs.place.split.Goals as goal
+use Rattle.hx_nest.proofs.spot.split.Goals as goal
 
 pub overflow_cast-face-2 : goal.overflow_cast-face-2
 overflow_cast-face-2 c = omega (arith, face_below c.args.k c.args.p c.requires.pixel)

@@ -1,6 +1,6 @@
 use Rattle.std.proofs.Common.{◌/◌, ◌^◌, ◌<◌, arith}
 use Rattle.hx_nest.proofs.Spread.{back, even_below}
-use Rattle.hx_nest.proofs.place.separated.Goals as goal
+use Rattle.hx_nest.proofs.spot.separated.Goals as goal
 
 pub returns-clause-number : goal.returns-clause-number
 returns-clause-number c = λ k order small.

@@ -1,10 +1,10 @@
-//! The place of a pixel on its face.
+//! The spot of a pixel on its face.
 ghost use Rattle.std.specs.Prelude.{◌≡◌, ◌*◌, ◌^◌, ◌<◌, ◌≤◌, ℕ};
 ghost use Rattle.hx_base.specs.Touching.{IsAt, interleave};
 
 use crate::bits::{gathered, spread};
 
-/// A place on one of the twelve faces: x counts pixels to the north-east and y to the north-west, both from
+/// A spot on one of the twelve faces: x counts pixels to the north-east and y to the north-west, both from
 /// the face's south corner.
 #[derive(Clone, Copy, Debug, PartialEq, Eq)]
 pub struct FaceXy {
@@ -31,7 +31,7 @@ fn interleaved(x: u32, y: u32) -> u64
     spread(x) | spread(y) << 1
 }
 
-/// The place of a pixel of order k. Its number is 4^k times the face plus the bits of x and y in turn, x first.
+/// The spot of a pixel of order k. Its number is 4^k times the face plus the bits of x and y in turn, x first.
 pub fn split(k: u8, p: u64) -> FaceXy
     requires order { k ≤ 29 }
     requires pixel { p < 12 * 4 ^ k }
@@ -42,13 +42,13 @@ pub fn split(k: u8, p: u64) -> FaceXy
     FaceXy { face, x, y }
 }
 
-/// The number of the pixel of order k at a place.
+/// The number of the pixel of order k at a spot.
 pub fn join_xy(k: u8, at: FaceXy) -> u64
     requires order { k ≤ 29 }
     requires face { at.face < 12 }
     requires x { at.x < 2 ^ k }
     requires y { at.y < 2 ^ k }
-    ensures place { IsAt k result at.face at.x at.y }
+    ensures spot { IsAt k result at.face at.x at.y }
     ensures range { result < 12 * 4 ^ k }
 {
     (u64::from(at.face) << (2 * k)) + interleaved(at.x, at.y)

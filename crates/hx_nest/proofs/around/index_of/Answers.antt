@@ -1,12 +1,12 @@
-use Rattle.std.proofs.Common.{rules, ltb}
+use Rattle.std.proofs.Common.{ltb, rules, ℕ}
 use Rattle.std.proofs.lemmas.Bool.{ltb-true, ltb-false}
 use Rattle.std.proofs.lemmas.List.Sorted.{IsPartitionPoint-from_clause, IsPartitionedBy-ltb}
-use Rattle.hx_nest.proofs.Lists.{up_to}
-use Rattle.hx_nest.proofs.around.place_of.Goals as goal
+use Rattle.hx_base.proofs.Ascending.{ascends_is_nondecreasing}
+use Rattle.hx_nest.proofs.around.index_of.Goals as goal
 
 pub returns : goal.returns
 returns c =
-    let parted = IsPartitionedBy-ltb (λ other. other) _ c.args.pixel (up_to c.args.pixels.now c.requires) in
+    let parted = IsPartitionedBy-ltb (λ other. other) _ c.args.pixel (ascends_is_nondecreasing (λ (x : ℕ). x) c.args.pixels.now c.requires) in
     let point = IsPartitionPoint-from_clause (λ other. ltb other c.args.pixel) _ _ c.partition_point.ensures.partitioned parted (λ a r q k. search rules) in
     record {
       within = c.partition_point.ensures.bound;
