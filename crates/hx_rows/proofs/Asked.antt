@@ -9,13 +9,14 @@ use Rattle.hx_pqmeta.specs.declared.refusal.PqRefusal.TheVariants as refusal
 use Rattle.hx_pqread.specs.Columns.{columns_in}
 use Rattle.hx_base.specs.declared.row.Row.{Row}
 use Rattle.hx_rows.specs.Csv.{csv_rows}
-use Rattle.hx_rows.specs.Parquet.{file_fault, five_names, parquet_rows}
+use Rattle.hx_base.specs.Columns.{column_names}
+use Rattle.hx_rows.specs.Parquet.{file_fault, parquet_rows}
 use Rattle.hx_rows.specs.Reading.{Reads, names_parquet, rows_of}
 use Rattle.hx_rows.specs.declared.read.RowRefusal.{RowRefusal}
 use Rattle.hx_rows.specs.declared.read.RowRefusal.TheVariants as answer
 
 -- a refusal of the columns is the file's
-pub refused-columns : (bytes : List ℕ) (why : PqRefusal) (told : RowRefusal) → (why ≡ refusal.Memory) ⊎ (columns_in bytes five_names ≡ Err why)
+pub refused-columns : (bytes : List ℕ) (why : PqRefusal) (told : RowRefusal) → (why ≡ refusal.Memory) ⊎ (columns_in bytes column_names ≡ Err why)
     → (why ≡ refusal.Memory → told ≡ answer.Memory) → Reads (Err told) (Err (file_fault why)) → Reads (Err told) (parquet_rows bytes)
 unfolding parquet_rows
 refused-columns bytes why told (inl wants) memory reads = rw (memory wants) tt

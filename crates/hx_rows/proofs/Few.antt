@@ -1,78 +1,64 @@
--- An input has at most as many rows as may be numbered.
-use Rattle.std.proofs.Common.{IfOk, Vec, Global, ◌≡◌, ◌+◌, ◌≤◌, ◌∷◌, [], ℕ, ℤ, List, Result, Ok, Err, arith, length, nat_lt, refl, suc, true, inl, inr}
-use Rattle.std.proofs.lemmas.Bool.{cases_order, lt-ltb}
+-- The rows of an input are good, and no more than may be numbered.
+use Rattle.std.proofs.Common.{IfOk, All, Vec, Global, ◌≡◌, ◌==◌, ◌≤◌, ◌∷◌, [], map, ℕ, ℤ, List, Option, Result, Ok, Err, arith, length, inl, inr, get_or, slice_get}
+use Rattle.std.proofs.lemmas.Bool.{cases_Bool}
+use Rattle.std.specs.List.{range_with_len}
+use Rattle.hx_base.specs.Columns.{◌>>=◌, row_of}
+use Rattle.hx_base.specs.Rows.{IsGood}
+use Rattle.hx_base.specs.declared.columns.RowFault.{RowFault}
 use Rattle.hx_base.specs.declared.row.Row.{Row}
-use Rattle.hx_rows.specs.Csv.{◌>>=◌, Columns, at_row, collected, columns_of, csv_rows, numbered_row, outcomes, table_rows, records_of}
+use Rattle.hx_base.proofs.RowValues.{good-row, value-of}
 use Rattle.hx_pqread.specs.Columns.{columns_in}
-use Rattle.hx_rows.specs.Parquet.{Values, across, five_names, in_file, numbered_values, outcomes_of_values, parquet_rows}
+use Rattle.hx_base.specs.Columns as base
+use Rattle.hx_rows.specs.Csv.{columns_of, csv_rows, field, records_of, row_of_record, table_rows, value_of}
+use Rattle.hx_rows.specs.Parquet.{in_file, parquet_rows, row_across, rows_of_columns}
 use Rattle.hx_rows.specs.Reading.{Reads}
+use Rattle.hx_rows.specs.Rows.{at_row, in_row}
 use Rattle.hx_rows.specs.declared.read.RowRefusal.{RowRefusal}
+use Rattle.hx_rows.proofs.Collecting.{AreRead, rows-read}
 
--- what was asked before a value was there
-value-of : {A B E : Type 0} (m : Result A E) (f : A → Result B E) (y : B) → (m >>= f) ≡ Ok y → (x : A) × (m ≡ Ok x) × (f x ≡ Ok y)
-value-of (Ok x) f y is = (x, refl, is)
-value-of (Err e) f y is = cc is
+in_row-is : (read : Result Row RowFault) (row : Row) → in_row read ≡ Ok row → read ≡ Ok row
+in_row-is (Ok found) row is = cc is
+in_row-is (Err f) row is = cc is
 
-numbered : (at : Columns) (width number : ℕ) (fields : List (List ℕ)) (row : Row) → at_row number (numbered_row at width number fields) ≡ Ok row → number ≤ 1099511627776
-unfolding numbered_row
-numbered at width number fields row is =
-    elim (cases_order number 1099511627776) [
-      | inl same ↦ omega (arith, same)
-      | inr (inl less) ↦ omega (arith, less)
-      | inr (inr high) ↦ let over : nat_lt 1099511627776 number ≡ true = lt-ltb 1099511627776 number high in absurd (cc (rw over at is))
+good-values : (values : List (Option ℤ)) (row : Row) → in_row (row_of values) ≡ Ok row → IsGood row
+good-values values row is = good-row values row (in_row-is (row_of values) row is)
+
+good-record : (columns : List ℕ) (width : ℕ) (fields : List (List ℕ)) (row : Row) → row_of_record columns width fields ≡ Ok row → IsGood row
+unfolding row_of_record
+good-record columns width fields row is =
+    elim (cases_Bool (length fields == width)) [
+      | inl e ↦ good-values (map (λ column. value_of (field fields column)) columns) row (rw e at is)
+      | inr e ↦ cc (rw e at is)
     ]
 
-few-from : (at : Columns) (width number : ℕ) (records : List (List (List ℕ))) (rows : List Row) → number ≤ 1099511627777 → collected (outcomes at width number records) ≡ Ok rows
-    → number + length rows ≤ 1099511627777
-few-from at width number [] rows low is = let none : rows ≡ [] = cc is in rw none (omega arith)
-few-from at width number (fields ∷ records) rows low is =
-    let first = value-of (at_row number (numbered_row at width number fields)) _ rows is in
-    let others = value-of (collected (outcomes at width (suc number) records)) _ rows first.2 in
-    let more = few-from at width (suc number) records others.0 (omega (arith, numbered at width number fields first.0 first.1)) others.1 in
-    let all : rows ≡ first.0 ∷ others.0 = cc others.2 in
-    rw all (omega (arith, more))
-
-few-in-table : (records : List (List (List ℕ))) (rows : List Row) → table_rows records ≡ Ok rows → length rows ≤ 1099511627776
+table-read : (records : List (List (List ℕ))) (rows : List Row) → table_rows records ≡ Ok rows → AreRead 1 rows
 unfolding table_rows
-few-in-table [] rows is = cc is
-few-in-table (header ∷ records) rows is =
+table-read [] rows is = cc is
+table-read (header ∷ records) rows is =
     let columns = value-of (at_row 0 (columns_of header)) _ rows is in
-    omega (arith, few-from columns.0 (length header) 1 records rows (omega arith) columns.2)
+    rows-read (row_of_record columns.0 (length header)) (good-record columns.0 (length header)) 1 records rows (omega arith) columns.2
 
-few : (bytes : List ℕ) (rows : List Row) → csv_rows bytes ≡ Ok rows → length rows ≤ 1099511627776
-few bytes rows is = few-in-table (records_of bytes) rows is
+columns-read : (columns : List (List ℤ)) (rows : List Row) → rows_of_columns columns ≡ Ok rows → AreRead 1 rows
+unfolding rows_of_columns
+columns-read columns rows is =
+    rows-read (row_across columns) (λ i. good-values (map (λ column. slice_get column i) columns)) 1 (range_with_len 0 (length (get_or columns 0 []))) rows (omega arith) is
 
-pub few-read : (bytes : List ℕ) (result : Result (Vec Row Global) RowRefusal) → Reads result (csv_rows bytes) → IfOk result (λ rows. length rows.items ≤ 1099511627776)
-few-read bytes (Ok rows) reads = few bytes rows.items reads
-few-read bytes (Err r) reads = tt
-
--- The same of Parquet inputs.
-
-numbered-values : (number : ℕ) (hp id x y z : ℤ) (row : Row) → at_row number (numbered_values number hp id x y z) ≡ Ok row → number ≤ 1099511627776
-unfolding numbered_values
-numbered-values number hp id x y z row is =
-    elim (cases_order number 1099511627776) [
-      | inl same ↦ omega (arith, same)
-      | inr (inl less) ↦ omega (arith, less)
-      | inr (inr high) ↦ let over : nat_lt 1099511627776 number ≡ true = lt-ltb 1099511627776 number high in absurd (cc (rw over at is))
-    ]
-
-few-values : (number : ℕ) (values : List Values) (rows : List Row) → number ≤ 1099511627777 → collected (outcomes_of_values number values) ≡ Ok rows
-    → number + length rows ≤ 1099511627777
-few-values number [] rows low is = let none : rows ≡ [] = cc is in rw none (omega arith)
-few-values number ((hp, (id, (x, (y, z)))) ∷ values) rows low is =
-    let first = value-of (at_row number (numbered_values number hp id x y z)) _ rows is in
-    let others = value-of (collected (outcomes_of_values (suc number) values)) _ rows first.2 in
-    let more = few-values (suc number) values others.0 (omega (arith, numbered-values number hp id x y z first.0 first.1)) others.1 in
-    let all : rows ≡ first.0 ∷ others.0 = cc others.2 in
-    rw all (omega (arith, more))
-
-few-parquet : (bytes : List ℕ) (rows : List Row) → parquet_rows bytes ≡ Ok rows → length rows ≤ 1099511627776
+pub parquet-read : (bytes : List ℕ) (rows : List Row) → parquet_rows bytes ≡ Ok rows → AreRead 1 rows
 unfolding parquet_rows
-few-parquet bytes rows is =
-    let columns = value-of (in_file (columns_in bytes five_names)) _ rows is in
-    omega (arith, few-values 1 (across columns.0) rows (omega arith) columns.2)
+parquet-read bytes rows is =
+    let columns = value-of (in_file (columns_in bytes base.column_names)) _ rows is in
+    columns-read columns.0 rows columns.2
 
-pub few-read-parquet : (bytes : List ℕ) (result : Result (Vec Row Global) RowRefusal) → Reads result (parquet_rows bytes) → IfOk result (λ rows. length rows.items ≤ 1099511627776)
-few-read-parquet bytes (Ok rows) reads = few-parquet bytes rows.items reads
-few-read-parquet bytes (Err r) reads = tt
+pub csv-read : (bytes : List ℕ) (rows : List Row) → csv_rows bytes ≡ Ok rows → AreRead 1 rows
+csv-read bytes rows is = table-read (records_of bytes) rows is
+
+-- what is read of an input
+pub good-read : (read : Result (List Row) (ℕ × ℕ)) (result : Result (Vec Row Global) RowRefusal) → ((rows : List Row) → read ≡ Ok rows → AreRead 1 rows)
+    → Reads result read → IfOk result (λ rows. All IsGood rows.items)
+good-read read (Ok rows) are reads = (are rows.items reads).good
+good-read read (Err r) are reads = tt
+
+pub few-read : (read : Result (List Row) (ℕ × ℕ)) (result : Result (Vec Row Global) RowRefusal) → ((rows : List Row) → read ≡ Ok rows → AreRead 1 rows)
+    → Reads result read → IfOk result (λ rows. length rows.items ≤ 1099511627776)
+few-read read (Ok rows) are reads = omega (arith, (are rows.items reads).few)
+few-read read (Err r) are reads = tt

@@ -1,10 +1,11 @@
+pub mod Across
 pub mod Asked
 pub mod Collecting
 pub mod Columns
 pub mod Few
-pub mod Fields
+pub mod Indices
+pub mod Lines
 pub mod Numbers
 pub mod Spelling
-pub mod Values
 pub mod Whole
 pub mod Words

@@ -2,7 +2,7 @@
 use Rattle.std.proofs.Common.{Bor, add-one, ◌≡◌, ◌==◌, ◌&&◌, ◌++◌, ◌+◌, if◌then◌else◌, Bool, ◌<◌, ◌≤◌, ◌∷◌, [], ◌∙◌, ℕ, zero, suc, List, length, Option, Some, None, refl, ap, true, false, arith, inl, inr}
 use Rattle.std.proofs.lemmas.Bool.{cases_Bool}
 use Rattle.csv.specs.Machine.{Read, next_record, step, in_field, start_field, start_record, after_end, ends_with, is_byte, is_end, ends_at_end, fields_after, field_after}
-use Rattle.csv.specs.Reading.{NextIs, ReadRecord, Ready, ReadsNext, default_config, pending_of, records_from, records_next}
+use Rattle.csv.specs.Reading.{NextIs, ReadRecord, Ready, ReadsNext, default_config, is_flexible, pending_of, records_from, records_next}
 use Rattle.csv.specs.declared.reader.Reader.{Reader}
 use Rattle.hx_rows.specs.Unread.{Stands, TakesNext, bytes_left}
 use Rattle.csv.specs.declared.parser.Action.{Action}
@@ -92,10 +92,10 @@ records_from-fuel cfg (suc n) (suc m) s xs enough enough2 between =
     next-fuel cfg n m s xs (λ s2 ys. records_from-fuel cfg n m s2 ys) (next_record cfg s [] [] xs) enough enough2 between refl
 
 -- what is left after a record was read
-Leaves : Config → State → List ℕ → List (List ℕ) → State → List ℕ → Type 0
+unfoldable pub Leaves : Config → State → List ℕ → List (List ℕ) → State → List ℕ → Type 0
 Leaves cfg s xs fields s2 ys = (ends_at_end s2 ≡ false) × (records_from cfg (length xs + 1) s xs ≡ fields ∷ records_from cfg (length ys + 1) s2 ys)
 
-next-true : (cfg : Config) (s s2 : State) (xs ys : List ℕ) (fields : List (List ℕ)) (next : Option Read) → ends_at_end s ≡ false
+pub next-true : (cfg : Config) (s s2 : State) (xs ys : List ℕ) (fields : List (List ℕ)) (next : Option Read) → ends_at_end s ≡ false
     → next_record cfg s [] [] xs ≡ next → NextIs next true fields s2 ys → Leaves cfg s xs fields s2 ys
 unfolding Leaves records_from
 next-true cfg s s2 xs ys fields None between h found = cc
@@ -126,11 +126,11 @@ reads-false cfg s s2 xs (Some ys) fields h = next-false cfg s s2 xs ys fields (n
 
 -- what the crate says of a read, in terms of the records that are left
 pub takes-next : (before after : Reader (Bor (List ℕ))) (fields : List (List ℕ)) (found : Bool) → Stands before
-    → (found ≡ true → Ready after) → ReadRecord (λ s. Some s.now) before after found fields → TakesNext found before after fields
+    → (found ≡ true → Ready after) → is_flexible after ≡ is_flexible before → ReadRecord (λ s. Some s.now) before after found fields → TakesNext found before after fields
 unfolding Leaves
-takes-next before after fields true stands ready r =
+takes-next before after fields true stands ready flexible r =
     let (ys, pending, left) = reads-true default_config before.state after.state stands.left.0 (pending_of (Some after.rdr.now) after) fields stands.between (rw (stands.config, stands.left.1) at r.0) in
     let source : bytes_left after ≡ Some ys = rw r.1 pending in
-    (record { trim = r.3 ∙ stands.trim; ready = ready refl; config = r.2 ∙ stands.config; between = left.0; left = (ys, source) }, rw (stands.left.1, source) left.1)
-takes-next before after fields false stands ready r =
+    (record { trim = r.3 ∙ stands.trim; flexible = flexible ∙ stands.flexible; ready = ready refl; config = r.2 ∙ stands.config; between = left.0; left = (ys, source) }, rw (stands.left.1, source) left.1)
+takes-next before after fields false stands ready flexible r =
     rw stands.left.1 (reads-false default_config before.state after.state stands.left.0 (pending_of (Some after.rdr.now) after) fields (rw (stands.config, stands.left.1) at r.0))

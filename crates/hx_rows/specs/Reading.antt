@@ -15,8 +15,12 @@ names_parquet name = ends_with nat_eq name (codes ".parquet")
 unfoldable pub rows_of : List ℕ → List ℕ → Result (List Row) (ℕ × ℕ)
 rows_of name bytes = if names_parquet name then parquet_rows bytes else csv_rows bytes
 
+-- a refusal tells the fault of what was read, unless memory ran out
+abbrev pub Tells : {A : Type 0} → RowRefusal → Result A (ℕ × ℕ) → Type 0
+Tells refusal.Memory read = Unit {0}
+Tells (refusal.Bad row why) read = read ≡ Err (row, why)
+
 -- what was answered is what reading gives, unless memory ran out
 abbrev pub Reads : Result (Vec Row Global) RowRefusal → Result (List Row) (ℕ × ℕ) → Type 0
 Reads (Ok rows) read = read ≡ Ok rows.items
-Reads (Err refusal.Memory) read = Unit {0}
-Reads (Err (refusal.Bad row why)) read = read ≡ Err (row, why)
+Reads (Err refusal) read = Tells refusal read

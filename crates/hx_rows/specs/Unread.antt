@@ -2,7 +2,7 @@
 use Rattle.std.specs.Prelude.{◌≡◌, ◌+◌, ℕ, List, [], ◌∷◌, length, Option, Some, None, Bool, true, false}
 use Rattle.std.specs.Borrow.{Bor}
 use Rattle.csv.specs.Machine.{ends_at_end}
-use Rattle.csv.specs.Reading.{Ready, default_config, records_from, source_of}
+use Rattle.csv.specs.Reading.{Ready, default_config, is_flexible, records_from, source_of}
 use Rattle.csv.specs.declared.parser.State.{State}
 use Rattle.csv.specs.declared.reader.Reader.{Reader}
 use Rattle.csv.specs.declared.reader.Trim.TheVariants as trim
@@ -19,9 +19,10 @@ unread_from state (Some bytes) = records_from default_config (length bytes + 1) 
 abbrev pub unread : Reader (Bor (List ℕ)) → List (List (List ℕ))
 unread reader = unread_from reader.state (bytes_left reader)
 
--- a reader that stands between two records, and reads in the default dialect, with no header of its own
+-- a reader that stands between two records, and reads in the default dialect, with no header of its own, records of any length
 pub record Stands (reader : Reader (Bor (List ℕ))) : Type 0 where
   pub trim : reader.trim ≡ trim.None
+  pub flexible : is_flexible reader ≡ true
   pub ready : Ready reader
   pub config : reader.config ≡ default_config
   pub between : ends_at_end reader.state ≡ false

@@ -1,5 +1,7 @@
 ghost use Rattle.std.specs.Prelude.{◌≡◌};
-ghost use Rattle.hx_rows.specs.Csv.{fault_number};
+ghost use Rattle.hx_rows.specs.Rows.{fault_number};
+
+use hx_base::RowFault;
 
 /// What is wrong with a header or with a row.
 #[derive(Clone, Copy, Debug, PartialEq, Eq)]
@@ -8,20 +10,20 @@ pub enum Fault {
     Header,
     /// A record has another number of fields than the header.
     Length,
-    /// `_healpix_29` is no number from 0 to 3458764513820540927.
-    Position,
-    /// `id` is no number that an i64 holds.
-    Id,
-    /// `cx` is no number from -2000000000 to 2000000000.
-    X,
-    /// The same of `cy`.
-    Y,
-    /// The same of `cz`.
-    Z,
-    /// The vector isn't of unit length.
-    Vector,
+    /// A row's values are no row.
+    Row(RowFault),
     /// The row's number is above 1099511627776.
     RowNumber,
+}
+
+impl From<RowFault> for Fault {
+    ghost use Rattle.hx_rows.specs.declared.fault.Fault.TheVariants.{Row};
+
+    ghost from_gives = { λ row fault. fault ≡ Row row };
+
+    fn from(fault: RowFault) -> Fault {
+        Fault::Row(fault)
+    }
 }
 
 impl Fault {
@@ -32,12 +34,7 @@ impl Fault {
         match self {
             Fault::Header => 1,
             Fault::Length => 2,
-            Fault::Position => 3,
-            Fault::Id => 4,
-            Fault::X => 5,
-            Fault::Y => 6,
-            Fault::Z => 7,
-            Fault::Vector => 8,
+            Fault::Row(fault) => fault.number(),
             Fault::RowNumber => 21,
         }
     }

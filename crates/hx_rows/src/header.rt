@@ -1,22 +1,12 @@
 ghost use Rattle.std.specs.Prelude.{◌≡◌, IfOk, length};
-ghost use Rattle.csv.specs.Records.{fields_of};
-ghost use Rattle.hx_rows.specs.Csv.{column_of, columns_of, field};
+ghost use Rattle.hx_rows.specs.Csv.{column_of, columns_of};
 ghost use Rattle.hx_rows.specs.Headers.{named_columns};
 
 use crate::fault::Fault;
-use csv::ByteRecord;
+use crate::fields::Fields;
+use hx_base::column_names;
 
-const POSITION: &[u8] = b"_healpix_29";
-
-const ID: &[u8] = b"id";
-
-const X: &[u8] = b"cx";
-
-const Y: &[u8] = b"cy";
-
-const Z: &[u8] = b"cz";
-
-/// Where the five columns stand in the header, and how many columns there are.
+/// The indices of the five columns in the header, and how many columns there are.
 #[derive(Clone, Copy, Debug, PartialEq, Eq)]
 pub(crate) struct Header {
     pub(crate) hp: usize,
@@ -27,28 +17,17 @@ pub(crate) struct Header {
     pub(crate) width: usize,
 }
 
-/// The field at a place, which is empty past the end.
-#[inline]
-pub(crate) fn field(fields: &ByteRecord, place: usize) -> &[u8]
-    ensures { result.now ≡ field (fields_of fields.now) place }
-{
-    match fields.get(place) {
-        Some(bytes) => bytes,
-        None => &[],
-    }
-}
-
-// The place of a name that the header has exactly once.
-fn column_of(header: &ByteRecord, name: &[u8]) -> Result<usize, Fault>
-    ensures { result ≡ column_of (fields_of header.now) name.now }
+// The index of a name that the header has exactly once.
+fn column_of<F: Fields>(header: &F, name: &[u8]) -> Result<usize, Fault>
+    ensures { result ≡ column_of (F.fields header.now) name.now }
 {
     let mut found = None;
-    for place in 0..header.len() {
-        if name == field(header, place) {
+    for column in 0..header.count() {
+        if name == header.at(column) {
             if found.is_some() {
                 return Err(Fault::Header);
             }
-            found = Some(place);
+            found = Some(column);
         }
     }
     found.ok_or(Fault::Header)
@@ -57,22 +36,23 @@ fn column_of(header: &ByteRecord, name: &[u8]) -> Result<usize, Fault>
 impl Header {
     /// The columns that a header record names.
     #[tactic(auto, unfolding(crate::specs::Csv::columns_of))]
-    pub(crate) fn of(header: &ByteRecord) -> Result<Header, Fault>
-        ensures columns { named_columns result ≡ columns_of (fields_of header.now) }
-        ensures width { IfOk result (λ found. found.width ≡ length (fields_of header.now)) }
+    pub(crate) fn of<F: Fields>(header: &F) -> Result<Header, Fault>
+        ensures columns { named_columns result ≡ columns_of (F.fields header.now) }
+        ensures width { IfOk result (λ found. found.width ≡ length (F.fields header.now)) }
     {
-        let hp = column_of(header, POSITION)?;
-        let id = column_of(header, ID)?;
-        let x = column_of(header, X)?;
-        let y = column_of(header, Y)?;
-        let z = column_of(header, Z)?;
+        let [hp, id, x, y, z] = column_names();
+        let hp = column_of(header, hp.as_bytes())?;
+        let id = column_of(header, id.as_bytes())?;
+        let x = column_of(header, x.as_bytes())?;
+        let y = column_of(header, y.as_bytes())?;
+        let z = column_of(header, z.as_bytes())?;
         Ok(Header {
             hp,
             id,
             x,
             y,
             z,
-            width: header.len(),
+            width: header.count(),
         })
     }
 }

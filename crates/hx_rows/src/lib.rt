@@ -3,14 +3,18 @@
 
 mod digits;
 mod fault;
+mod fields;
 mod header;
 mod number;
 mod parquet;
+mod plain;
 mod read;
-mod row;
+mod record;
+mod rows;
 mod table;
 #[cfg(test)]
 mod tests;
 
 pub use fault::Fault;
+pub use parquet::{parquet_rows, rows_of_columns};
 pub use read::{RowRefusal, read_rows};

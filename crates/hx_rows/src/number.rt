@@ -1,12 +1,11 @@
-ghost use Rattle.std.specs.Prelude.{◌≡◌, ◌<◌, ◌≤◌, ◌≤ℤ◌, ◌^◌, IfOk, neg_ℤ, pos};
-ghost use Rattle.hx_rows.specs.Csv.{coordinate, natural_of, number_of, number_within};
+ghost use Rattle.std.specs.Prelude.{◌≡◌, ◌≤◌, ◌^◌, Some, neg_ℤ, option_and_then, pos};
+ghost use Rattle.hx_rows.specs.Csv.{fitting, natural_of, number_of, value_of};
 ghost use Rattle.hx_rows.specs.Numbers.{signed};
 
 use crate::digits::natural;
-use crate::fault::Fault;
 
-/// The greatest magnitude of a vector's coordinate, in 10^-9.
-pub(crate) const MOST_COORDINATE: u64 = 2_000_000_000;
+/// The magnitude of the least number that an i64 holds.
+const MOST_NEGATIVE: u64 = 9_223_372_036_854_775_808;
 
 // Whether a number has a `-` before its digits, and what stands behind the `-`.
 #[inline]
@@ -27,41 +26,30 @@ fn negated(magnitude: u64) -> i64
     0i64.wrapping_sub_unsigned(magnitude)
 }
 
-/// A number from `-most_below` to `most_above`: 1 to 19 digits, with a `-` before them or none.
+// The number of a magnitude, with a `-` before it or none, where an i64 holds it.
 #[inline]
-pub(crate) fn number_within(
-    most_below: u64,
-    most_above: u64,
-    fault: Fault,
-    text: &[u8],
-) -> Result<i64, Fault>
-    requires below { most_below ≤ 2 ^ 63 }
-    requires above { most_above < 2 ^ 63 }
-    ensures exact { result ≡ number_within (neg_ℤ (pos most_below)) (pos most_above) fault text.now }
-    ensures low { IfOk result (λ number. neg_ℤ (pos most_below) ≤ℤ number) }
-    ensures high { IfOk result (λ number. number ≤ℤ pos most_above) }
+fn fitting(negative: bool, magnitude: u64) -> Option<i64>
+    ensures { result ≡ option_and_then fitting (signed negative (Some magnitude)) }
 {
-    let (negative, digits) = sign_and_digits(text);
-    let Some(magnitude) = natural(digits) else {
-        return Err(fault);
-    };
     if negative {
-        if magnitude > most_below {
-            return Err(fault);
+        if magnitude > MOST_NEGATIVE {
+            return None;
         }
-        return Ok(negated(magnitude));
+        return Some(negated(magnitude));
     }
-    if magnitude > most_above {
-        return Err(fault);
+    if magnitude >= MOST_NEGATIVE {
+        return None;
     }
-    Ok(magnitude as i64)
+    Some(magnitude as i64)
 }
 
-/// One coordinate of a vector, in 10^-9.
+/// The value of a field: 1 to 19 digits, with a `-` before them or none. It is None where the field spells no number
+/// that an i64 holds.
 #[inline]
-pub(crate) fn coordinate(fault: Fault, text: &[u8]) -> Result<i32, Fault>
-    ensures { result ≡ coordinate fault text.now }
+pub(crate) fn value_of(text: &[u8]) -> Option<i64>
+    ensures { result ≡ value_of text.now }
 {
-    let number = number_within(MOST_COORDINATE, MOST_COORDINATE, fault, text)?;
-    Ok(number as i32)
+    let (negative, digits) = sign_and_digits(text);
+    let magnitude = natural(digits)?;
+    fitting(negative, magnitude)
 }

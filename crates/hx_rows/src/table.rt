@@ -1,15 +1,17 @@
-ghost use Rattle.std.specs.Prelude.{◌≡◌, All, IfErr, IfOk};
+ghost use Rattle.std.specs.Prelude.{◌≡◌, IfErr, IfOk};
 ghost use Rattle.csv.specs.Records.{fields_of};
-ghost use Rattle.hx_base.specs.Rows.{IsGood};
-ghost use Rattle.hx_rows.specs.Csv.{collected, csv_rows, fault_number, outcomes};
+ghost use Rattle.hx_rows.specs.Csv.{csv_rows, row_of_record};
 ghost use Rattle.hx_rows.specs.Headers.{columns_in};
 ghost use Rattle.hx_rows.specs.Reading.{Reads};
+ghost use Rattle.hx_rows.specs.Rows.{rows_from};
 ghost use Rattle.hx_rows.specs.Unread.{Stands, TakesNext, unread};
 
 use crate::fault::Fault;
 use crate::header::Header;
+use crate::plain::plain_rows;
 use crate::read::RowRefusal;
-use crate::row::numbered_row;
+use crate::record::row_of_record;
+use crate::rows::{push_row, refused};
 use csv::{ByteRecord, Reader, ReaderBuilder};
 use hx_base::Row;
 use std::alloc::Global;
@@ -26,61 +28,51 @@ fn read_next(reader: &mut Reader<&[u8]>, fields: &mut ByteRecord) -> Result<bool
     Ok(found)
 }
 
-/// The refusal of a fault in a row.
-pub(crate) fn refused(row: u64, fault: Fault) -> RowRefusal
-    ensures { result ≡ RowRefusal.Bad row (fault_number fault) }
-{
-    RowRefusal::Bad {
-        row,
-        why: fault.number(),
-    }
-}
-
 // The rows under a header, read with one record's room.
 fn rows_under(
     alloc: Global,
     header: &Header,
     reader: &mut Reader<&[u8]>,
-    fields: &mut ByteRecord,
+    line: &mut ByteRecord,
 ) -> Result<Vec<Row>, RowRefusal>
     requires { Stands reader.old }
-    ensures exact { Reads result (collected (outcomes (columns_in header.now) header.now.width 1 (unread reader.old))) }
-    ensures good { IfOk result (λ rows. All IsGood rows.items) }
+    ensures { Reads result (rows_from (row_of_record (columns_in header.now) header.now.width) 1 (unread reader.old)) }
 {
     let mut rows = Vec::new(alloc);
     for turn in 0..u64::MAX {
-        if !read_next(reader, fields)? {
+        if !read_next(reader, line)? {
             return Ok(rows);
         }
-        let number = turn + 1;
-        match numbered_row(header, number, fields) {
-            Ok(row) => {
-                let Ok(()) = rows.push(row) else {
-                    return Err(RowRefusal::Memory);
-                };
-            }
-            Err(fault) => return Err(refused(number, fault)),
-        }
+        push_row(&mut rows, turn + 1, row_of_record(header, line))?;
     }
     Err(RowRefusal::Memory)
 }
 
-/// The rows of a CSV input, or its first fault.
+// The rows of a CSV text, as the crate `csv` reads it.
 #[tactic(auto, unfolding(crate::specs::Csv::table_rows))]
-pub(crate) fn csv_rows(alloc: Global, bytes: &[u8]) -> Result<Vec<Row>, RowRefusal>
-    ensures exact { Reads result (csv_rows bytes.now) }
-    ensures good { IfOk result (λ rows. All IsGood rows.items) }
+fn any_rows(alloc: Global, bytes: &[u8]) -> Result<Vec<Row>, RowRefusal>
+    ensures { Reads result (csv_rows bytes.now) }
 {
     let mut reader = ReaderBuilder::new()
         .has_headers(false)
         .flexible(true)
         .from_reader(alloc, bytes);
-    let mut fields = ByteRecord::new(alloc);
-    if !read_next(&mut reader, &mut fields)? {
+    let mut line = ByteRecord::new(alloc);
+    if !read_next(&mut reader, &mut line)? {
         return Err(refused(0, Fault::Header));
     }
-    match Header::of(&fields) {
-        Ok(header) => rows_under(alloc, &header, &mut reader, &mut fields),
+    match Header::of(&line) {
+        Ok(header) => rows_under(alloc, &header, &mut reader, &mut line),
         Err(fault) => Err(refused(0, fault)),
+    }
+}
+
+/// The rows of a CSV input, or its first fault.
+pub(crate) fn csv_rows(alloc: Global, bytes: &[u8]) -> Result<Vec<Row>, RowRefusal>
+    ensures { Reads result (csv_rows bytes.now) }
+{
+    match plain_rows(alloc, bytes) {
+        Some(read) => read,
+        None => any_rows(alloc, bytes),
     }
 }

@@ -8,4 +8,4 @@ returns-clause-next c =
     let stands = c.requires in
     let told = c.in-Ok.ensures in
     takes-next c.args.reader.now c.read_byte_record.new.self (fields_of c.read_byte_record.new.row) c.in-Ok.found stands
-    (λ _. inl (told.ready stands.trim)) (told.reads stands.trim stands.ready)
+    (λ _. inl (told.ready stands.trim)) told.flexible (told.reads stands.trim stands.ready)
