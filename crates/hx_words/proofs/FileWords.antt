@@ -1,5 +1,5 @@
 -- Words that name inputs.
-use Rattle.std.proofs.Common.{◌≡◌, ◌==◌, ◌<◌, ◌≤◌, ◌-◌, ◌∷◌, get_or, take, drop, ap, sym, [], false, ℕ, List, All, String, Global, length, map, string_bytes, arith, subst}
+use Rattle.std.proofs.Common.{◌≡◌, ◌∙◌, ◌==◌, ◌<◌, ◌≤◌, ◌-◌, ◌∷◌, get_or, take, drop, ap, sym, [], false, ℕ, List, All, String, Global, length, map, string_bytes, arith, subst}
 use Rattle.std.proofs.Math.ListN.{get_or-map}
 use Rattle.std.proofs.lemmas.List.{length-map, take_rest}
 use Rattle.std.proofs.lemmas.List.Elements.{All-map}
@@ -24,3 +24,13 @@ pub first_and_rest : (words : List (String Global)) (first : String Global) → 
     → map text words ≡ string_bytes first ∷ map string_bytes (take (length words - 1) (drop 1 words))
 first_and_rest [] first some is = absurd (omega (arith, some))
 first_and_rest (w ∷ words) first some is = rw (take_rest (w ∷ words) 1) (ap (λ (x : String Global). string_bytes x ∷ map text words) (sym is))
+
+-- what two words say
+pub two_words : (words : List (String Global)) (first second : String Global) → first ≡ get_or words 0 first → second ≡ get_or words 1 second
+    → (a b : List ℕ) → map text words ≡ a ∷ b ∷ [] → (string_bytes first ≡ a) × (string_bytes second ≡ b)
+two_words [] first second is_first is_second a b are = cc are
+two_words (w ∷ []) first second is_first is_second a b are = cc are
+two_words (w ∷ v ∷ words) first second is_first is_second a b are =
+    let head : text w ≡ a = cc are in
+    let next : text v ≡ b = cc are in
+    (ap text is_first ∙ head, ap text is_second ∙ next)

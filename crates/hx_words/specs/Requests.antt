@@ -1,5 +1,6 @@
 -- What a request of the code stands for.
 use Rattle.std.specs.Prelude.{◌≡◌, ◌*◌, ◌^◌, ◌<◌, ◌≤◌, ℕ, List, length, drop}
+use Rattle.hx_base.specs.Limits.{highest_order, most_in_partition}
 use Rattle.hx_words.specs.Words.{AreFiles, Around, Command, Histogram, Means, Plan, files_of}
 use Rattle.hx_words.specs.declared.request.Action.{Action}
 use Rattle.hx_words.specs.declared.request.Action.TheVariants as action
@@ -24,7 +25,9 @@ pub record IsHistogramRequest (order : ℕ) (names : List (List ℕ)) : Type 0 w
 
 pub record IsPlanRequest (lowest highest threshold : ℕ) (names : List (List ℕ)) : Type 0 where
   pub order : lowest ≤ highest
-  pub in_range : highest ≤ 20
+  pub in_range : highest ≤ highest_order
+  pub threshold_least : 1 ≤ threshold
+  pub threshold_most : threshold ≤ most_in_partition
   pub files : AreFiles names
 
 pub record IsAroundRequest (order pixel : ℕ) : Type 0 where

@@ -3,7 +3,7 @@ use Rattle.std.specs.Prelude.{◌≡◌, ◌≢◌, ◌<◌, ◌≤◌, ◌*◌,
 use Rattle.std.specs.Fmt.{decimal}
 use Rattle.std.specs.Option.{unwrap_or}
 use Rattle.hx_base.specs.FileWords.{IsFileWord}
-use Rattle.hx_words.specs.Options.{AreOptions, default_of, given_in, option_words}
+use Rattle.hx_words.specs.Options.{AreOptions, default_of, given_in, option_words, plan_options}
 use Rattle.hx_words.specs.declared.options.OptionName.{OptionName}
 use Rattle.hx_words.specs.declared.options.OptionName.TheVariants as option
 
@@ -44,7 +44,7 @@ value_of name options = unwrap_or (given_in options name) (default_of name)
 pub record IsPlanLine (words : List (List ℕ)) (lowest highest threshold : ℕ) (files : List (List ℕ)) : Type 0 where
   pub options : List (OptionName × ℕ)
   pub form : words ≡ codes "plan" ∷ option_words options ++ files
-  pub sound : AreOptions options
+  pub sound : AreOptions plan_options options
   pub lowest_is : lowest ≡ value_of option.Lowest options
   pub highest_is : highest ≡ value_of option.Highest options
   pub threshold_is : threshold ≡ value_of option.Threshold options

@@ -1,9 +1,12 @@
 //! Numbers of the command line.
-ghost use Rattle.std.specs.Prelude.{◌≡◌, ◌≢◌, ◌≤◌, ◌<◌, ◌^◌, ℕ, MatchOption, IsTrue, ◌↔◌};
+ghost use Rattle.std.specs.Prelude.{◌≡◌, ◌≢◌, ◌≤◌, ◌<◌, ◌*◌, ◌^◌, ℕ, MatchOption, IsTrue, ◌↔◌};
 ghost use Rattle.std.specs.Fmt.{decimal};
 ghost use Rattle.hx_words.specs.Words.{BeginsNumber};
 
-const HIGHEST_ORDER: u64 = 29;
+use hx_base::pixels_of_order;
+
+// The order of positions is the highest.
+const POSITIONS: u64 = 29;
 
 // Whether a text may be a number by its first byte: `0` stands alone, and there is no sign.
 fn begins_a_number(digits: &[u8]) -> bool
@@ -31,8 +34,21 @@ pub fn order(word: &str) -> Option<u8>
     ensures { MatchOption result ((k : ℕ) → k ≤ 29 → word.now ≢ decimal k) (λ k. (k ≤ 29) × (word.now ≡ decimal k)) }
 {
     let order = number(word)?;
-    if order > HIGHEST_ORDER {
+    if order > POSITIONS {
         return None;
     }
     Some(order as u8)
+}
+
+/// A pixel of an order.
+pub fn pixel(order: u8, word: &str) -> Option<u64>
+    requires { order ≤ 29 }
+    ensures { MatchOption result ((p : ℕ) → p < 12 * 4 ^ order → word.now ≢ decimal p)
+        (λ p. (p < 12 * 4 ^ order) × (word.now ≡ decimal p)) }
+{
+    let pixel = number(word)?;
+    if pixel >= pixels_of_order(order) {
+        return None;
+    }
+    Some(pixel)
 }

@@ -1,11 +1,12 @@
-//! Options of a command line: each is two words, its name and a number. They stand in any order before the other
-//! words of a command, each at most once.
-ghost use Rattle.std.specs.Prelude.{◌≡◌, ◌≢◌, ◌↔◌, ◌∷◌, ℕ, IsTrue, IsSome, List, MatchOption, None, Some, map, string_bytes};
+//! Options of a command line: each is two words, its name and a number. Those of a command stand in any order before
+//! its other words, each at most once.
+ghost use Rattle.std.specs.Prelude.{◌≡◌, ◌≢◌, ◌↔◌, ◌∷◌, ℕ, IsTrue, IfSome, IsSome, List, MatchOption, None, Some, Contains, map, string_bytes};
 ghost use Rattle.std.specs.Fmt.{decimal};
-ghost use Rattle.hx_words.specs.Options.{AreFurther, AreRead, BeginsNoOption, InRange, kept, word_of};
+ghost use Rattle.hx_words.specs.Options.{AreFurther, AreRead, BeginsNoOption, InRange, default_of, kept, number_of, word_of};
 ghost use Rattle.hx_words.specs.declared.options.OptionName.{OptionName};
 
 use crate::number::number;
+use hx_base::{HIGHEST_MARGIN_ORDER, HIGHEST_ORDER, MOST_IN_PARTITION};
 
 /// The name of an option.
 #[derive(Clone, Copy, Debug, PartialEq, Eq)]
@@ -16,6 +17,8 @@ pub enum OptionName {
     Highest,
     /// How many rows a partition has at most.
     Threshold,
+    /// The order of the pixels by which margins are cut.
+    MarginOrder,
 }
 
 /// The options of a line, each where it is given.
@@ -24,11 +27,8 @@ pub struct Options {
     pub lowest: Option<u64>,
     pub highest: Option<u64>,
     pub threshold: Option<u64>,
+    pub margin_order: Option<u64>,
 }
-
-const HIGHEST_ORDER: u64 = 20;
-
-const HIGHEST_THRESHOLD: u64 = 1_000_000;
 
 // The option of that name.
 fn name_of(word: &str) -> Option<OptionName>
@@ -38,6 +38,7 @@ fn name_of(word: &str) -> Option<OptionName>
         "--lowest" => Some(OptionName::Lowest),
         "--highest" => Some(OptionName::Highest),
         "--threshold" => Some(OptionName::Threshold),
+        "--margin-order" => Some(OptionName::MarginOrder),
         _ => None,
     }
 }
@@ -53,12 +54,32 @@ fn option_at(words: &[String]) -> Option<OptionName>
     name_of(first.as_str())
 }
 
+fn is_among(names: &[OptionName], name: OptionName) -> bool
+    ensures { IsTrue result ↔ Contains names.now name }
+{
+    names.contains(&name)
+}
+
 fn is_in_range(name: OptionName, number: u64) -> bool
     ensures { IsTrue result ↔ InRange name number }
 {
     match name {
-        OptionName::Lowest | OptionName::Highest => number <= HIGHEST_ORDER,
-        OptionName::Threshold => 1 <= number && number <= HIGHEST_THRESHOLD,
+        OptionName::Lowest | OptionName::Highest => number <= u64::from(HIGHEST_ORDER),
+        OptionName::Threshold => 1 <= number && number <= MOST_IN_PARTITION,
+        OptionName::MarginOrder => number <= u64::from(HIGHEST_MARGIN_ORDER),
+    }
+}
+
+// The number of an option that isn't given.
+fn default_of(name: OptionName) -> u64
+    ensures value { result ≡ default_of name }
+    ensures range { InRange name result }
+{
+    match name {
+        OptionName::Lowest => 0,
+        OptionName::Highest => 7,
+        OptionName::Threshold => 1_000_000,
+        OptionName::MarginOrder => 10,
     }
 }
 
@@ -83,16 +104,30 @@ impl Options {
             lowest: None,
             highest: None,
             threshold: None,
+            margin_order: None,
         }
     }
 
-    fn is_given(self, name: OptionName) -> bool
-        ensures { IsTrue result ↔ IsSome (kept self name) }
+    fn given(self, name: OptionName) -> Option<u64>
+        ensures { result ≡ kept self name }
     {
         match name {
-            OptionName::Lowest => self.lowest.is_some(),
-            OptionName::Highest => self.highest.is_some(),
-            OptionName::Threshold => self.threshold.is_some(),
+            OptionName::Lowest => self.lowest,
+            OptionName::Highest => self.highest,
+            OptionName::Threshold => self.threshold,
+            OptionName::MarginOrder => self.margin_order,
+        }
+    }
+
+    /// The number of an option, or its default where it isn't given.
+    pub fn number(self, name: OptionName) -> u64
+        requires { IfSome (kept self name) (InRange name) }
+        ensures value { result ≡ number_of self name }
+        ensures range { InRange name result }
+    {
+        match self.given(name) {
+            Some(number) => number,
+            None => default_of(name),
         }
     }
 
@@ -101,17 +136,22 @@ impl Options {
         ensures this { kept result name ≡ Some number }
         ensures others { (other : OptionName) → other ≢ name → kept result other ≡ kept self other }
     {
+        let given = Some(number);
         match name {
             OptionName::Lowest => Options {
-                lowest: Some(number),
+                lowest: given,
                 ..self
             },
             OptionName::Highest => Options {
-                highest: Some(number),
+                highest: given,
                 ..self
             },
             OptionName::Threshold => Options {
-                threshold: Some(number),
+                threshold: given,
+                ..self
+            },
+            OptionName::MarginOrder => Options {
+                margin_order: given,
                 ..self
             },
         }
@@ -123,7 +163,7 @@ impl Options {
             (λ more. (n : ℕ) × InRange name n × (word.now ≡ decimal n) × (kept self name ≡ None) × (kept more name ≡ Some n) ×
             ((other : OptionName) → other ≢ name → kept more other ≡ kept self other)) }
     {
-        if self.is_given(name) {
+        if self.given(name).is_some() {
             return None;
         }
         let value = value_of(name, word)?;
@@ -132,20 +172,27 @@ impl Options {
 }
 
 /// Reads the options at the head of words, which follow others, and says how many words they are. There are none
-/// where an option's number is out of form or range, or where an option is given again.
-pub fn read_options(before: Options, words: &[String]) -> Option<(Options, usize)>
+/// where an option isn't one of the command's, is given again, or has a number out of form or range.
+pub fn read_options(
+    names: &[OptionName],
+    before: Options,
+    words: &[String],
+) -> Option<(Options, usize)>
     ensures { MatchOption result
         ((options : List (OptionName × ℕ)) (rest : List (List ℕ)) →
-        AreFurther before (map string_bytes words.now) options rest → ⊥)
-        (λ r. AreRead before (map string_bytes words.now) r.0 r.1) }
+        AreFurther names.now before (map string_bytes words.now) options rest → ⊥)
+        (λ r. AreRead names.now before (map string_bytes words.now) r.0 r.1) }
 {
     let Some(name) = option_at(words) else {
         return Some((before, 0));
     };
+    if !is_among(names, name) {
+        return None;
+    }
     let [_, value, rest @ ..] = words else {
         return None;
     };
     let options = before.and(name, value.as_str())?;
-    let (options, count) = read_options(options, rest)?;
+    let (options, count) = read_options(names, options, rest)?;
     Some((options, count + 2))
 }

@@ -113,6 +113,10 @@ fn lines_without_a_meaning(rt: HostRuntime) -> Result<(), Fail> {
         "plan --Lowest 1 a.csv",
         "Plan a.csv",
         "plan --margin-order 10 a.csv",
+        "plan --lowest 1 --margin-order 10 a.csv",
+        "plan --margin-order",
+        "histogram --highest 1 0 a.csv",
+        "around --highest 1 0 0",
         "plan --workers 1 a.csv",
     ];
     for line in lines {
