@@ -2,9 +2,12 @@
 use Rattle.std.proofs.Common.{◌≡◌, ◌≢◌, ◌<◌, ◌⊎◌, ℕ, List, [], ◌∷◌, Option, Some, None, IfSome, IsOkAnd, Result, Ok, Err, IfErr, IfOk, Vec, Global, refl, ap, arith, inl, inr, length}
 use Rattle.hx_base.specs.declared.refusal.Refusal.{Refusal}
 use Rattle.hx_base.specs.declared.refusal.Refusal.TheVariants as refusal
-use Rattle.hx_outside.specs.Faults.{Rose}
-use Rattle.hx_cli.specs.FirstRefusal.{IsExact, MayBeInstead, MayStandInPlace, Shows}
-use Rattle.hx_cli.specs.Runs.{Gains, IsCaused, IsCommandCause, IsOwnCause, NoneRose, Prints}
+use Rattle.hx_base.specs.FirstRefusals.{IsExact, MayBeInstead, MayStandInPlace, Shows}
+use Rattle.hx_outside.specs.Sources.{SourceMembers}
+use Rattle.hx_align.specs.Refusals.{IsCutCause}
+use Rattle.hx_inputs.specs.Inputs.{IsAfterRows}
+use Rattle.hx_inputs.specs.Sources.{NoneRose}
+use Rattle.hx_cli.specs.Runs.{Gains, IsCaused, IsCommandCause, IsOwnCause, Prints}
 use Rattle.hx_words.specs.Words.{Around, Command, HasNoMeaning, Histogram, Plan}
 
 -- no command refuses its own words
@@ -13,20 +16,33 @@ not_usage (Histogram order files) own = own
 not_usage (Plan lowest highest threshold files) own = own
 not_usage (Around order pixel) own = own
 
-module _ {S : Type 0} (told : S → Option (List ℕ)) (label : S → List ℕ) (faults : S → ℕ) (words : List (List ℕ)) (before now : List S) where
-  caused-by : (r : Refusal) (sink_before sink_now : ℕ) → (r ≡ refusal.Usage → HasNoMeaning words) → (r ≢ refusal.Usage → IsCommandCause told label faults words before now r)
-      → IsCaused told label faults words before now sink_before sink_now r
-  caused-by refusal.Usage b n usage cause = inl (refl, usage refl)
-  caused-by _ b n usage cause = inr (inr (cause (λ e. cc e)))
+-- a refusal of a plan's own is no input's
+pub turn_of_cut : (threshold : ℕ) (names bytes : List (List ℕ)) (r : Refusal) → IsCutCause threshold r → IsAfterRows names bytes r
+turn_of_cut threshold names bytes (refusal.InputFault i) cause = absurd cause
+turn_of_cut threshold names bytes _ cause = tt
 
-  pub caused : (answered : Result (Vec ℕ Global) Refusal) (outcome : Option Refusal) (sink_before sink_now : ℕ) → Prints answered outcome
-      → (answered ≡ Err refusal.Usage → HasNoMeaning words) → IfErr answered (λ r. r ≢ refusal.Usage → IsCommandCause told label faults words before now r)
-      → (outcome ≡ Some refusal.SinkFault → Rose sink_before sink_now)
-      → IfSome outcome (IsCaused told label faults words before now sink_before sink_now)
-  caused (Ok text) None b n prints usage cause sink = tt
-  caused (Ok text) (Some refusal.SinkFault) b n prints usage cause sink = inr (inl (refl, sink refl))
-  caused (Ok text) (Some _) b n prints usage cause sink = absurd prints
-  caused (Err r) outcome b n prints usage cause sink = rw prints (caused-by r b n (λ e. usage (ap Err e)) cause)
+-- what holds of every refusal of an answer holds of that of its printing
+pub printed : (P : Refusal → Type 0) (answered : Result (Vec ℕ Global) Refusal) (outcome : Option Refusal) → Prints answered outcome → P refusal.SinkFault → IfErr answered P → IfSome outcome P
+printed P (Ok text) None prints sink all = tt
+printed P (Ok text) (Some refusal.SinkFault) prints sink all = sink
+printed P (Ok text) (Some _) prints sink all = absurd prints
+printed P (Err r) outcome prints sink all = rw prints all
+
+pub of_each : {T : Type 0} (P : Refusal → Type 0) (result : Result T Refusal) → ((r : Refusal) → P r) → IfErr result P
+of_each P (Ok x) each = tt
+of_each P (Err r) each = each r
+
+module _ {S : Type 0} (source : SourceMembers S) (words : List (List ℕ)) (before now : List S) (failed : Type 0) where
+  caused-by : (r : Refusal) → (r ≡ refusal.Usage → HasNoMeaning words) → (r ≢ refusal.Usage → IsCommandCause source words before now r) → IsCaused source words before now failed r
+  caused-by refusal.Usage usage cause = inl (refl, usage refl)
+  caused-by _ usage cause = inr (inr (cause (λ e. cc e)))
+
+  pub caused : (answered : Result (Vec ℕ Global) Refusal) (outcome : Option Refusal) → Prints answered outcome → (answered ≡ Err refusal.Usage → HasNoMeaning words)
+      → IfErr answered (λ r. r ≢ refusal.Usage → IsCommandCause source words before now r) → (outcome ≡ Some refusal.SinkFault → failed) → IfSome outcome (IsCaused source words before now failed)
+  caused (Ok text) None prints usage cause sink = tt
+  caused (Ok text) (Some refusal.SinkFault) prints usage cause sink = inr (inl (refl, sink refl))
+  caused (Ok text) (Some _) prints usage cause sink = absurd prints
+  caused (Err r) outcome prints usage cause sink = rw prints (caused-by r (λ e. usage (ap Err e)) cause)
 
   -- a list that has a place has an element
   element : (xs : List S) (i : ℕ) → i < length xs → S
@@ -34,31 +50,31 @@ module _ {S : Type 0} (told : S → Option (List ℕ)) (label : S → List ℕ) 
   element (x ∷ xs) i below = x
 
   -- a fault of an input that has no cause
-  stands-alone : (r : Refusal) (b n : ℕ) → MayStandInPlace r → IsCaused told label faults words before now b n r → NoneRose faults before now → Some r ≡ Some refusal.Memory
-  stands-alone refusal.Memory b n free cause still = refl
-  stands-alone (refusal.InputFault i) b n free (inl (e, _)) still = cc e
-  stands-alone (refusal.InputFault i) b n free (inr (inl (e, _))) still = cc e
-  stands-alone (refusal.InputFault i) b n free (inr (inr (command, means, inl cause))) still = let d = element before i cause.0 in absurd (still i d cause.0 (cause.1 d))
-  stands-alone (refusal.InputFault i) b n free (inr (inr (Histogram order files, means, inr own))) still = absurd own
-  stands-alone (refusal.InputFault i) b n free (inr (inr (Plan l h t files, means, inr own))) still = absurd own
-  stands-alone (refusal.InputFault i) b n free (inr (inr (Around k p, means, inr own))) still = absurd own
-  stands-alone _ b n free cause still = absurd free
+  stands-alone : (r : Refusal) → MayStandInPlace r → IsCaused source words before now failed r → NoneRose source before now → Some r ≡ Some refusal.Memory
+  stands-alone refusal.Memory free cause still = refl
+  stands-alone (refusal.InputFault i) free (inl (e, _)) still = cc e
+  stands-alone (refusal.InputFault i) free (inr (inl (e, _))) still = cc e
+  stands-alone (refusal.InputFault i) free (inr (inr (command, means, inl cause))) still = let d = element before i cause.0 in absurd (still i d cause.0 (cause.1 d).1)
+  stands-alone (refusal.InputFault i) free (inr (inr (Histogram order files, means, inr own))) still = absurd own
+  stands-alone (refusal.InputFault i) free (inr (inr (Plan l h t files, means, inr own))) still = absurd own
+  stands-alone (refusal.InputFault i) free (inr (inr (Around k p, means, inr own))) still = absurd own
+  stands-alone _ free cause still = absurd free
 
-  sink-alone : (b n : ℕ) → IsCaused told label faults words before now b n refusal.SinkFault → Rose b n
-  sink-alone b n (inl (e, _)) = cc e
-  sink-alone b n (inr (inl (_, rose))) = rose
-  sink-alone b n (inr (inr (command, means, inl cause))) = absurd cause
-  sink-alone b n (inr (inr (Histogram order files, means, inr own))) = absurd own
-  sink-alone b n (inr (inr (Plan l h t files, means, inr own))) = absurd own
-  sink-alone b n (inr (inr (Around k p, means, inr own))) = absurd own
+  sink-alone : IsCaused source words before now failed refusal.SinkFault → failed
+  sink-alone (inl (e, _)) = cc e
+  sink-alone (inr (inl (_, rose))) = rose
+  sink-alone (inr (inr (command, means, inl cause))) = absurd cause
+  sink-alone (inr (inr (Histogram order files, means, inr own))) = absurd own
+  sink-alone (inr (inr (Plan l h t files, means, inr own))) = absurd own
+  sink-alone (inr (inr (Around k p, means, inr own))) = absurd own
 
   -- where no refusal comes first and no count rose, only want of memory is refused
-  pub memory_alone : (outcome : Option Refusal) (b n : ℕ) (none : Type 0) → (outcome ≡ None) ⊎ MayBeInstead outcome none → IfSome outcome (IsCaused told label faults words before now b n)
-      → NoneRose faults before now → (Rose b n → ⊥) → (outcome ≡ None) ⊎ (outcome ≡ Some refusal.Memory)
-  memory_alone outcome b n none (inl done) cause still sink = inl done
-  memory_alone None b n none (inr (inl free)) cause still sink = inl refl
-  memory_alone (Some r) b n none (inr (inl free)) cause still sink = inr (stands-alone r b n free cause still)
-  memory_alone outcome b n none (inr (inr (failed, _))) cause still sink = absurd (sink (sink-alone b n (rw failed at cause)))
+  pub memory_alone : (outcome : Option Refusal) (none : Type 0) → (outcome ≡ None) ⊎ MayBeInstead outcome none → IfSome outcome (IsCaused source words before now failed)
+      → NoneRose source before now → (failed → ⊥) → (outcome ≡ None) ⊎ (outcome ≡ Some refusal.Memory)
+  memory_alone outcome none (inl done) cause still sink = inl done
+  memory_alone None none (inr (inl free)) cause still sink = inl refl
+  memory_alone (Some r) none (inr (inl free)) cause still sink = inr (stands-alone r free cause still)
+  memory_alone outcome none (inr (inr (is, _))) cause still sink = absurd (sink (sink-alone (rw is at cause)))
 
 module _ (IsFirst : Option Refusal → Type 0) where
   -- printing keeps what an answer shows of the first refusal

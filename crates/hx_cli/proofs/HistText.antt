@@ -7,7 +7,8 @@ use Rattle.std.proofs.lemmas.List.Concat.{flat_map-append}
 use Rattle.std.proofs.lemmas.List.Elements.{recursion_from_All}
 use Rattle.hx_base.specs.declared.row.Row.{Row}
 use Rattle.hx_hist.specs.Histograms.{IsHistogram, count_at}
-use Rattle.hx_cli.specs.Histograms.{count_in, line_of, pixel_line, numbers_below, histogram_text}
+use Rattle.hx_base.specs.Pixels.{count_in}
+use Rattle.hx_cli.specs.Histograms.{line_of, pixel_line, numbers_below, histogram_text}
 use Rattle.hx_hist.specs.declared.hist.Pair.{Pair}
 use Rattle.hx_hist.proofs.Pairs.{filter_none, filter_all}
 
@@ -95,16 +96,16 @@ by_pixels xs up some (suc n) =
     rw (split n xs up, flat_map-append line (filter (below n) xs) (filter (is_at n) xs), by_pixels xs up some n, at_one n xs up some)
     (sym (flat_map-append (λ p. text_of p (count_at p xs)) (numbers_below n) (n ∷ []) ∙ ap (λ t. flat_map (λ p. text_of p (count_at p xs)) (numbers_below n) ++ t) (append-nil (text_of n (count_at n xs)))))
 
-lines-of-order : (order : ℕ) (rows : List Row) (pairs : List Pair) → IsHistogram order pairs → ((p : ℕ) → count_at p pairs ≡ count_in order p rows) → flat_map (λ pair. line_of pair.pixel pair.count) pairs ≡ histogram_text order rows
+lines-of-order : (order : ℕ) (rows : List Row) (pairs : List Pair) → IsHistogram order pairs → ((p : ℕ) → count_at p pairs ≡ count_in (record { order = order; number = p }) rows) → flat_map (λ pair. line_of pair.pixel pair.count) pairs ≡ histogram_text order rows
 unfolding histogram_text
 lines-of-order order rows pairs h counts =
     let n = 12 * 4 ^ order in
     let whole : filter (below n) pairs ≡ pairs = filter_all (below n) pairs (λ k d within. lt-ltb _ n (h.range k d within)) in
     ap (flat_map line) (sym whole) ∙ by_pixels pairs (rises_from pairs h.ascending) (recursion_from_All (λ pair. 0 < pair.count) pairs h.counted) n
-    ∙ flat_map_same (λ p. text_of p (count_at p pairs)) (pixel_line order rows) (λ p. ap (text_of p) (counts p)) (numbers_below n)
+    ∙ flat_map_same (λ p. text_of p (count_at p pairs)) (λ p. pixel_line rows (record { order = order; number = p })) (λ p. ap (text_of p) (counts p)) (numbers_below n)
 
 -- the text of a histogram that has the counts of rows
-pub lines_are : (order same : ℕ) (rows : List Row) (pairs : List Pair) → same ≡ order → IsHistogram same pairs → ((p : ℕ) → count_at p pairs ≡ count_in order p rows)
+pub lines_are : (order same : ℕ) (rows : List Row) (pairs : List Pair) → same ≡ order → IsHistogram same pairs → ((p : ℕ) → count_at p pairs ≡ count_in (record { order = order; number = p }) rows)
     → flat_map (λ pair. line_of pair.pixel pair.count) pairs ≡ histogram_text order rows
 lines_are order same rows pairs is h counts = lines-of-order order rows pairs (rw is at h) counts
 

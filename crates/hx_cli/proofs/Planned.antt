@@ -12,8 +12,9 @@ use Rattle.hx_base.specs.declared.refusal.Refusal.TheVariants as refusal
 use Rattle.hx_base.specs.declared.row.Row.{Row}
 use Rattle.hx_hist.proofs.Rows.{totals_agree}
 use Rattle.hx_hist.specs.Histograms.{Histogram, count_at}
-use Rattle.hx_cli.specs.FirstRefusal.{Shows}
-use Rattle.hx_cli.specs.Plans.{IsCutRefusal, IsPlanText, partition_line}
+use Rattle.hx_align.specs.Refusals.{IsCutRefusal}
+use Rattle.hx_base.specs.FirstRefusals.{Shows}
+use Rattle.hx_cli.specs.Plans.{IsPlanText, partition_line}
 
 lines-by : (rows : List Row) (plan : List PlanRow) → AllByRecursion (λ row. row.count ≡ count_in row.pixel rows) plan
     → flat_map (λ row. partition_line row.pixel row.count) plan ≡ flat_map (λ pixel. partition_line pixel (count_in pixel rows)) (map (λ row. row.pixel) plan)

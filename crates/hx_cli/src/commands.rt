@@ -2,21 +2,27 @@
 ghost use Rattle.std.specs.Prelude.{◌≡◌, ◌≤◌, ◌⊎◌, List, ℕ, IfErr, IfOk, length, map};
 ghost use Rattle.std.specs.List.{flat_map};
 ghost use Rattle.hx_align.specs.Plans.{IsPlanOf, totals_of};
+ghost use Rattle.hx_align.specs.Refusals.{IsCutCause, IsCutRefusal};
 ghost use Rattle.hx_align.specs.declared.plan.PlanRow.{PlanRow};
-ghost use Rattle.hx_cli.specs.FirstRefusal.{IsLaterRefusal, Shows, bad_input};
-ghost use Rattle.hx_cli.specs.Limits.{most_inputs};
+ghost use Rattle.hx_base.specs.FirstRefusals.{Shows};
+ghost use Rattle.hx_base.specs.Limits.{highest_order, most_in_partition, most_inputs};
+ghost use Rattle.hx_inputs.specs.Causes.{IsInputsCause};
+ghost use Rattle.hx_inputs.specs.Inputs.{IsAfterRows, bad_input};
+ghost use Rattle.hx_inputs.specs.Sources.{SameSources, Tell};
+ghost use Rattle.hx_cli.specs.FirstRefusal.{IsLaterRefusal};
 ghost use Rattle.hx_cli.specs.Neighbours.{IsAroundText};
-ghost use Rattle.hx_cli.specs.Plans.{IsCutCause, IsCutRefusal, partition_line};
+ghost use Rattle.hx_cli.specs.Plans.{partition_line};
+ghost use Rattle.hx_cli.specs.Runs.{IsOwnCause, IsTextOf};
 ghost use Rattle.hx_words.specs.Requests.{IsAroundRequest, IsHistogramRequest, IsPlanRequest, IsSound, command_of};
-ghost use Rattle.hx_cli.specs.Runs.{IsInputsCause, IsOwnCause, IsTextOf, SameSources, Tell};
 ghost use Rattle.hx_words.specs.Words.{Histogram, Plan};
 
-use crate::inputs::count_inputs;
 use crate::lines::lines_of;
 use crate::neighbours::line_around;
-use crate::planning::{lines_of_plan, partitions};
+use crate::planning::lines_of_plan;
+use hx_align::align;
 use hx_base::Refusal;
 use hx_hist::Hist;
+use hx_inputs::count_inputs;
 use hx_outside::Source;
 use hx_words::Action;
 use std::alloc::Global;
@@ -27,23 +33,22 @@ fn histogram<Src: Source>(
     order: u8,
     inputs: &mut Vec<Src>,
 ) -> Result<Vec<u8>, Refusal>
-    requires request { IsHistogramRequest order (map Src.label inputs.old.items) }
+    requires request { IsHistogramRequest order (map Src.source.label inputs.old.items) }
     requires few { length inputs.old.items ≤ most_inputs }
-    ensures text { let names = map Src.label inputs.old.items in
-        (bytes : List (List ℕ)) → Tell Src.told inputs.old.items bytes →
+    ensures text { let names = map Src.source.label inputs.old.items in
+        (bytes : List (List ℕ)) → Tell Src.source inputs.old.items bytes →
         IfOk result (λ text. IsTextOf (Histogram order names) names bytes text.items) }
-    ensures first { let names = map Src.label inputs.old.items in
-        (bytes : List (List ℕ)) → Tell Src.told inputs.old.items bytes →
+    ensures first { let names = map Src.source.label inputs.old.items in
+        (bytes : List (List ℕ)) → Tell Src.source inputs.old.items bytes →
         Shows (λ first. first ≡ bad_input 0 names bytes) result }
-    ensures same { SameSources Src.told Src.label Src.faults inputs.old.items inputs.new.items }
-    ensures cause { IfErr result
-        (IsInputsCause Src.told Src.label Src.faults inputs.old.items inputs.new.items) }
+    ensures in_turn { let names = map Src.source.label inputs.old.items in
+        (bytes : List (List ℕ)) → Tell Src.source inputs.old.items bytes →
+        IfErr result (IsAfterRows names bytes) }
+    ensures same { SameSources Src.source inputs.old.items inputs.new.items }
+    ensures cause { IfErr result (IsInputsCause Src.source inputs.old.items inputs.new.items) }
 {
     let counts = count_inputs(alloc, order, inputs)?;
-    match lines_of(alloc, &counts) {
-        Ok(text) => Ok(text),
-        Err(_) => Err(Refusal::Memory),
-    }
+    Ok(lines_of(alloc, &counts)?)
 }
 
 // The text of the partitions of counted rows.
@@ -56,17 +61,17 @@ fn plan_text(
 ) -> Result<Vec<u8>, Refusal>
     requires order { counts.now.order ≡ highest }
     requires lowest { lowest ≤ highest }
+    requires highest { highest ≤ highest_order }
+    requires threshold_least { 1 ≤ threshold }
+    requires threshold_most { threshold ≤ most_in_partition }
     ensures text { IfOk result (λ text. (plan : List PlanRow) ×
         IsPlanOf (totals_of counts.now) lowest highest threshold plan ×
         (text.items ≡ flat_map (λ row. partition_line row.pixel row.count) plan)) }
     ensures first { Shows (IsCutRefusal (totals_of counts.now) lowest highest threshold) result }
     ensures cause { IfErr result (IsCutCause threshold) }
 {
-    let plan = partitions(alloc, counts, lowest, highest, threshold)?;
-    match lines_of_plan(alloc, &plan) {
-        Ok(text) => Ok(text),
-        Err(_) => Err(Refusal::Memory),
-    }
+    let plan = align(alloc, counts, lowest, highest, threshold)?;
+    Ok(lines_of_plan(alloc, &plan)?)
 }
 
 // The text of the partitions of the inputs' rows.
@@ -77,17 +82,20 @@ fn plan<Src: Source>(
     threshold: u64,
     inputs: &mut Vec<Src>,
 ) -> Result<Vec<u8>, Refusal>
-    requires request { IsPlanRequest lowest highest threshold (map Src.label inputs.old.items) }
+    requires request { IsPlanRequest lowest highest threshold (map Src.source.label inputs.old.items) }
     requires few { length inputs.old.items ≤ most_inputs }
-    ensures text { let names = map Src.label inputs.old.items in
-        (bytes : List (List ℕ)) → Tell Src.told inputs.old.items bytes →
+    ensures text { let names = map Src.source.label inputs.old.items in
+        (bytes : List (List ℕ)) → Tell Src.source inputs.old.items bytes →
         IfOk result (λ text. IsTextOf (Plan lowest highest threshold names) names bytes text.items) }
-    ensures first { let names = map Src.label inputs.old.items in
-        (bytes : List (List ℕ)) → Tell Src.told inputs.old.items bytes →
+    ensures first { let names = map Src.source.label inputs.old.items in
+        (bytes : List (List ℕ)) → Tell Src.source inputs.old.items bytes →
         Shows (IsLaterRefusal (Plan lowest highest threshold names) names bytes) result }
-    ensures same { SameSources Src.told Src.label Src.faults inputs.old.items inputs.new.items }
+    ensures in_turn { let names = map Src.source.label inputs.old.items in
+        (bytes : List (List ℕ)) → Tell Src.source inputs.old.items bytes →
+        IfErr result (IsAfterRows names bytes) }
+    ensures same { SameSources Src.source inputs.old.items inputs.new.items }
     ensures cause { IfErr result (λ r.
-        IsInputsCause Src.told Src.label Src.faults inputs.old.items inputs.new.items r ⊎
+        IsInputsCause Src.source inputs.old.items inputs.new.items r ⊎
         IsCutCause threshold r) }
 {
     let counts = count_inputs(alloc, highest, inputs)?;
@@ -100,10 +108,7 @@ fn around(alloc: Global, order: u8, pixel: u64) -> Result<Vec<u8>, Refusal>
     ensures text { IfOk result (λ text. IsAroundText order pixel text.items) }
     ensures memory { IfErr result (λ r. r ≡ Refusal.Memory) }
 {
-    match line_around(alloc, order, pixel) {
-        Ok(text) => Ok(text),
-        Err(_) => Err(Refusal::Memory),
-    }
+    Ok(line_around(alloc, order, pixel)?)
 }
 
 /// The text that an action gives over inputs that keep to the limits.
@@ -112,17 +117,20 @@ pub fn act<Src: Source>(
     action: Action,
     inputs: &mut Vec<Src>,
 ) -> Result<Vec<u8>, Refusal>
-    requires sound { IsSound action (map Src.label inputs.old.items) }
+    requires sound { IsSound action (map Src.source.label inputs.old.items) }
     requires few { length inputs.old.items ≤ most_inputs }
-    ensures text { let names = map Src.label inputs.old.items in
-        (bytes : List (List ℕ)) → Tell Src.told inputs.old.items bytes →
+    ensures text { let names = map Src.source.label inputs.old.items in
+        (bytes : List (List ℕ)) → Tell Src.source inputs.old.items bytes →
         IfOk result (λ text. IsTextOf (command_of action names) names bytes text.items) }
-    ensures first { let names = map Src.label inputs.old.items in
-        (bytes : List (List ℕ)) → Tell Src.told inputs.old.items bytes →
+    ensures first { let names = map Src.source.label inputs.old.items in
+        (bytes : List (List ℕ)) → Tell Src.source inputs.old.items bytes →
         Shows (IsLaterRefusal (command_of action names) names bytes) result }
-    ensures same { SameSources Src.told Src.label Src.faults inputs.old.items inputs.new.items }
-    ensures cause { let names = map Src.label inputs.old.items in IfErr result (λ r.
-        IsInputsCause Src.told Src.label Src.faults inputs.old.items inputs.new.items r ⊎
+    ensures in_turn { let names = map Src.source.label inputs.old.items in
+        (bytes : List (List ℕ)) → Tell Src.source inputs.old.items bytes →
+        IfErr result (IsAfterRows names bytes) }
+    ensures same { SameSources Src.source inputs.old.items inputs.new.items }
+    ensures cause { let names = map Src.source.label inputs.old.items in IfErr result (λ r.
+        IsInputsCause Src.source inputs.old.items inputs.new.items r ⊎
         IsOwnCause (command_of action names) r) }
 {
     match action {

@@ -2,9 +2,6 @@
 #![tactic(auto)]
 
 mod commands;
-mod counting;
-mod input;
-mod inputs;
 mod lines;
 mod neighbours;
 mod planning;

@@ -1,45 +1,15 @@
-//! The partitions of counted rows, and their text.
-ghost use Rattle.std.specs.Prelude.{◌≡◌, ◌≤◌, ◌++◌, ◌∷◌, [], IfErr, IfOk, OnOk};
+//! The text of the partitions of counted rows.
+ghost use Rattle.std.specs.Prelude.{◌≡◌, ◌++◌, ◌∷◌, [], IfOk, OnOk};
 ghost use Rattle.std.specs.Fmt.{decimal};
 ghost use Rattle.std.specs.List.{flat_map};
-ghost use Rattle.hx_align.specs.Plans.{IsPlanOf, totals_of};
-ghost use Rattle.hx_cli.specs.FirstRefusal.{Shows};
-ghost use Rattle.hx_cli.specs.Plans.{IsCutCause, IsCutRefusal, partition_line};
+ghost use Rattle.hx_cli.specs.Plans.{partition_line};
 
-use hx_align::{AlignRefusal, Plan, PlanRow, align};
-use hx_base::{MOST_PARTITIONS, Refusal};
-use hx_hist::Hist;
+use hx_align::{Plan, PlanRow};
 use itoa::Buffer;
 use std::alloc::{AllocError, Global};
 
 // The bytes of a line whose numbers have a usual length.
 const USUAL_LINE: usize = 16;
-
-/// The partitions of counted rows, or why there are none.
-pub fn partitions(
-    alloc: Global,
-    counts: &Hist,
-    lowest: u8,
-    highest: u8,
-    threshold: u64,
-) -> Result<Plan, Refusal>
-    requires order { counts.now.order ≡ highest }
-    requires lowest { lowest ≤ highest }
-    ensures plan { IfOk result (λ plan. IsPlanOf (totals_of counts.now) lowest highest threshold plan) }
-    ensures first { Shows (IsCutRefusal (totals_of counts.now) lowest highest threshold) result }
-    ensures cause { IfErr result (IsCutCause threshold) }
-{
-    match align(alloc, counts, lowest, highest, threshold) {
-        Ok(plan) => Ok(plan),
-        Err(AlignRefusal::Overfull { pixel, count }) => Err(Refusal::Overfull { pixel, count }),
-        Err(AlignRefusal::TooMany { found }) => Err(Refusal::TooMany {
-            what: 3,
-            found,
-            limit: MOST_PARTITIONS as u64,
-        }),
-        Err(AlignRefusal::Memory) => Err(Refusal::Memory),
-    }
-}
 
 // A number and the byte behind it.
 fn push_number(text: &mut Vec<u8>, number: u64, end: u8) -> Result<(), AllocError>

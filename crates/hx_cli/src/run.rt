@@ -1,17 +1,21 @@
 //! The top call: a command line, done over its inputs.
 ghost use Rattle.std.specs.Prelude.{◌≡◌, ◌≢◌, ◌<◌, ◌≤◌, ◌↔◌, ◌⊎◌, List, ℕ, Err, IfErr, IfOk, IfSome, IsOkAnd, None, Some, length, map, string_bytes};
+ghost use Rattle.hx_base.specs.FirstRefusals.{IsExact, Shows};
+ghost use Rattle.hx_base.specs.Limits.{most_inputs};
 ghost use Rattle.hx_base.specs.Refusals.{status_after};
 ghost use Rattle.hx_base.specs.declared.refusal.Refusal.TheVariants.{Memory, SinkFault, TooMany, Usage};
-ghost use Rattle.hx_outside.specs.Faults.{Rose};
-ghost use Rattle.hx_cli.specs.FirstRefusal.{IsExact, IsFirstRefusal, Shows};
-ghost use Rattle.hx_cli.specs.Limits.{most_inputs};
+ghost use Rattle.hx_outside.specs.Faults.{HasFailed};
+ghost use Rattle.hx_inputs.specs.Causes.{IsInputsCause};
+ghost use Rattle.hx_inputs.specs.Inputs.{IsAfterLengths};
+ghost use Rattle.hx_inputs.specs.Sources.{NoneRose, SameSources, Tell};
+ghost use Rattle.hx_cli.specs.FirstRefusal.{IsFirstRefusal};
+ghost use Rattle.hx_cli.specs.Runs.{Gains, IsCaused, IsCommandCause, IsOutput, IsOwnCause, IsTextOf, Prints};
 ghost use Rattle.hx_words.specs.Requests.{IsSound, command_of};
-ghost use Rattle.hx_cli.specs.Runs.{Gains, IsCaused, IsCommandCause, IsInputsCause, IsOutput, IsOwnCause, IsTextOf, NoneRose, Prints, SameSources, Tell};
 ghost use Rattle.hx_words.specs.Words.{AreInputNames, Command, HasNoMeaning, Means};
 
 use crate::commands::act;
-use crate::inputs::check_inputs;
 use hx_base::Refusal;
+use hx_inputs::check_inputs;
 use hx_outside::{Sink, Source, Store};
 use hx_words::{Action, request_of};
 use std::alloc::Global;
@@ -33,18 +37,20 @@ fn answer<Src: Source>(
     action: Action,
     inputs: &mut Vec<Src>,
 ) -> Result<Vec<u8>, Refusal>
-    requires { IsSound action (map Src.label inputs.old.items) }
-    ensures text { let names = map Src.label inputs.old.items in
-        (bytes : List (List ℕ)) → Tell Src.told inputs.old.items bytes →
+    requires { IsSound action (map Src.source.label inputs.old.items) }
+    ensures text { let names = map Src.source.label inputs.old.items in
+        (bytes : List (List ℕ)) → Tell Src.source inputs.old.items bytes →
         IfOk result (λ text. IsTextOf (command_of action names) names bytes text.items) }
-    ensures first { let names = map Src.label inputs.old.items in
-        (bytes : List (List ℕ)) → Tell Src.told inputs.old.items bytes →
+    ensures first { let names = map Src.source.label inputs.old.items in
+        (bytes : List (List ℕ)) → Tell Src.source inputs.old.items bytes →
         Shows (IsFirstRefusal (command_of action names) names bytes) result }
+    ensures in_turn { (bytes : List (List ℕ)) → Tell Src.source inputs.old.items bytes →
+        IfErr result (IsAfterLengths bytes) }
     ensures many { most_inputs < length inputs.old.items →
         result ≡ Err (TooMany 1 (length inputs.old.items) most_inputs) }
-    ensures same { SameSources Src.told Src.label Src.faults inputs.old.items inputs.new.items }
-    ensures cause { let names = map Src.label inputs.old.items in IfErr result (λ r.
-        IsInputsCause Src.told Src.label Src.faults inputs.old.items inputs.new.items r ⊎
+    ensures same { SameSources Src.source inputs.old.items inputs.new.items }
+    ensures cause { let names = map Src.source.label inputs.old.items in IfErr result (λ r.
+        IsInputsCause Src.source inputs.old.items inputs.new.items r ⊎
         IsOwnCause (command_of action names) r) }
 {
     check_inputs(inputs)?;
@@ -57,20 +63,22 @@ fn answer_line<Src: Source>(
     words: &[String],
     inputs: &mut Vec<Src>,
 ) -> Result<Vec<u8>, Refusal>
-    requires { AreInputNames (map string_bytes words.now) (map Src.label inputs.old.items) }
-    ensures text { let names = map Src.label inputs.old.items in
-        (bytes : List (List ℕ)) → Tell Src.told inputs.old.items bytes →
+    requires { AreInputNames (map string_bytes words.now) (map Src.source.label inputs.old.items) }
+    ensures text { let names = map Src.source.label inputs.old.items in
+        (bytes : List (List ℕ)) → Tell Src.source inputs.old.items bytes →
         IfOk result (λ text. IsOutput (map string_bytes words.now) names bytes text.items) }
     ensures usage { (result ≡ Err Usage) ↔ HasNoMeaning (map string_bytes words.now) }
-    ensures first { let names = map Src.label inputs.old.items in
-        (bytes : List (List ℕ)) (command : Command) → Tell Src.told inputs.old.items bytes →
+    ensures first { let names = map Src.source.label inputs.old.items in
+        (bytes : List (List ℕ)) (command : Command) → Tell Src.source inputs.old.items bytes →
         Means (map string_bytes words.now) command →
         Shows (IsFirstRefusal command names bytes) result }
+    ensures in_turn { (bytes : List (List ℕ)) → Tell Src.source inputs.old.items bytes →
+        IfErr result (IsAfterLengths bytes) }
     ensures many { most_inputs < length inputs.old.items →
         result ≡ Err (TooMany 1 (length inputs.old.items) most_inputs) }
-    ensures same { SameSources Src.told Src.label Src.faults inputs.old.items inputs.new.items }
+    ensures same { SameSources Src.source inputs.old.items inputs.new.items }
     ensures cause { IfErr result (λ r. r ≢ Usage →
-        IsCommandCause Src.told Src.label Src.faults (map string_bytes words.now) inputs.old.items inputs.new.items r) }
+        IsCommandCause Src.source (map string_bytes words.now) inputs.old.items inputs.new.items r) }
 {
     match request_of(words) {
         None => Err(Refusal::Usage),
@@ -82,9 +90,10 @@ fn answer_line<Src: Source>(
 fn print<O: Sink>(out: &mut O, answered: Result<Vec<u8>, Refusal>) -> Option<Refusal>
     requires { answered ≢ Err SinkFault }
     ensures outcome { Prints answered result }
-    ensures output { IfSome (O.written out.old) (λ before.
-        Gains (λ text. IsOkAnd answered (λ t. text ≡ t.items)) before (O.written out.new) result) }
-    ensures cause { result ≡ Some SinkFault → Rose (O.faults out.old) (O.faults out.new) }
+    ensures output { IfSome (O.sink.written out.old) (λ before.
+        Gains (λ text. IsOkAnd answered (λ t. text ≡ t.items)) before (O.sink.written out.new) result) }
+    ensures cause { result ≡ Some SinkFault → HasFailed O.sink.faults out.old out.new }
+    ensures sink { O.sink.faults out.old ≤ O.sink.faults out.new }
 {
     match answered {
         Ok(text) => match out.write(text.as_slice()) {
@@ -114,10 +123,10 @@ pub fn run_plain<Src: Source, S: Store, O: Sink>(
     out: &mut O,
 ) -> Ran<Src, S>
     // The inputs' names are the file words of the line.
-    requires { AreInputNames (map string_bytes words.now) (map Src.label inputs.items) }
+    requires { AreInputNames (map string_bytes words.now) (map Src.source.label inputs.items) }
 
     // The inputs come back in their order, each with its name and bytes, and no count fell.
-    ensures inputs { SameSources Src.told Src.label Src.faults inputs.items result.inputs.items }
+    ensures inputs { SameSources Src.source inputs.items result.inputs.items }
 
     ensures status { result.status ≡ status_after result.refusal }
 
@@ -129,30 +138,38 @@ pub fn run_plain<Src: Source, S: Store, O: Sink>(
         result.refusal ≡ Some (TooMany 1 (length inputs.items) most_inputs) }
 
     // Where the sources tell: each refusal of a line that has a meaning exactly where it comes first.
-    ensures first { let names = map Src.label inputs.items in
-        (bytes : List (List ℕ)) (command : Command) → Tell Src.told inputs.items bytes →
+    ensures first { let names = map Src.source.label inputs.items in
+        (bytes : List (List ℕ)) (command : Command) → Tell Src.source inputs.items bytes →
         Means (map string_bytes words.now) command →
         IsExact result.refusal (IsFirstRefusal command names bytes) }
 
+    // Where the sources tell: a fault of an input is answered only where no input before it is too long, and want of
+    // memory only where none is.
+    ensures in_turn { (bytes : List (List ℕ)) → Tell Src.source inputs.items bytes →
+        IfSome result.refusal (IsAfterLengths bytes) }
+
     // Where the sources tell, no refusal comes first and no count rose, only want of memory is refused.
-    ensures complete { let names = map Src.label inputs.items in
-        (bytes : List (List ℕ)) (command : Command) → Tell Src.told inputs.items bytes →
+    ensures complete { let names = map Src.source.label inputs.items in
+        (bytes : List (List ℕ)) (command : Command) → Tell Src.source inputs.items bytes →
         Means (map string_bytes words.now) command → IsFirstRefusal command names bytes None →
-        NoneRose Src.faults inputs.items result.inputs.items →
-        (Rose (O.faults out.old) (O.faults out.new) → ⊥) →
+        NoneRose Src.source inputs.items result.inputs.items →
+        (HasFailed O.sink.faults out.old out.new → ⊥) →
         (result.refusal ≡ None) ⊎ (result.refusal ≡ Some Memory) }
 
     // Each refusal has its cause.
     ensures cause { IfSome result.refusal
-        (IsCaused Src.told Src.label Src.faults (map string_bytes words.now)
-        inputs.items result.inputs.items (O.faults out.old) (O.faults out.new)) }
+        (IsCaused Src.source (map string_bytes words.now) inputs.items result.inputs.items
+        (HasFailed O.sink.faults out.old out.new)) }
 
     // Where the sink tells: it has gained the text, or a front of it where it failed, or nothing.
-    ensures output { let names = map Src.label inputs.items in
-        let IsText = λ (text : List ℕ). (bytes : List (List ℕ)) → Tell Src.told inputs.items bytes →
+    ensures output { let names = map Src.source.label inputs.items in
+        let IsText = λ (text : List ℕ). (bytes : List (List ℕ)) → Tell Src.source inputs.items bytes →
         IsOutput (map string_bytes words.now) names bytes text in
-        IfSome (O.written out.old) (λ before.
-        Gains IsText before (O.written out.new) result.refusal) }
+        IfSome (O.sink.written out.old) (λ before.
+        Gains IsText before (O.sink.written out.new) result.refusal) }
+
+    // The sink's count did not fall.
+    ensures sink { O.sink.faults out.old ≤ O.sink.faults out.new }
 
     ensures store { result.store ≡ store }
 {

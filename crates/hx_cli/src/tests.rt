@@ -1,6 +1,5 @@
 //! The top call over sources and sinks in memory. The expected texts are counted by hand.
 mod around;
-mod blank;
 mod parquet;
 mod plan;
 mod several;
@@ -30,7 +29,7 @@ struct Shown {
     written: Vec<u8>,
 }
 
-// A source of these bytes, of which a read gives at most so many, with these calls to fail.
+// A source of these bytes, of which a read gives at most so many, and of which these calls fail.
 fn source(
     alloc: Global,
     name: &str,
@@ -46,13 +45,13 @@ fn source(
     Ok(Slow { inner, most })
 }
 
-// Such a source for each name, with these contents in order, and empty ones behind.
+// Such a source for each name, with these contents and failing calls in order, and empty and without a fault behind.
 fn sources(
     alloc: Global,
     names: &[String],
     contents: &[&[u8]],
     most: usize,
-    failing: &[u64],
+    failing: &[&[u64]],
 ) -> Result<Vec<Slow<MemSource>>, AllocError>
     requires { 0 < most }
     ensures { IfOk result (λ sources.
@@ -60,9 +59,11 @@ fn sources(
 {
     let mut sources = Vec::new(alloc);
     let mut contents = contents.iter();
+    let mut failing = failing.iter();
     for name in names {
         let bytes = contents.next().copied().unwrap_or(b"");
-        sources.push(source(alloc, name.as_str(), bytes, most, failing)?)?;
+        let calls = failing.next().copied().unwrap_or(&[]);
+        sources.push(source(alloc, name.as_str(), bytes, most, calls)?)?;
     }
     Ok(sources)
 }
@@ -82,7 +83,7 @@ fn run_over(
     line: &str,
     contents: &[&[u8]],
     most: usize,
-    failing: &[u64],
+    failing: &[&[u64]],
     room: usize,
 ) -> Result<Shown, AllocError>
     requires { 0 < most }
@@ -215,7 +216,7 @@ fn faults_of_the_outside(rt: HostRuntime) -> Result<(), Fail> {
     let bytes = b"id,_healpix_29,cx,cy,cz\n7,0,1000000000,0,0\n".as_slice();
     // The length, and the first read.
     for failing in [0, 1] {
-        let shown = run_over(rt.alloc(), line, &[bytes], ALL, &[failing], 100)?;
+        let shown = run_over(rt.alloc(), line, &[bytes], ALL, &[&[failing]], 100)?;
         assert_eq!(rt; shown.refusal, Some(Refusal::InputFault { input: 0 }));
         assert_eq!(rt; shown.status, 6);
     }

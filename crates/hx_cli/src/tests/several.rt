@@ -1,11 +1,6 @@
-//! Lines with several inputs, and the limits of inputs.
-use super::blank::blanks;
-use super::{ALL, run_over, words_of};
-use crate::{input_names, run_plain};
+//! Lines with several inputs.
+use super::{ALL, run_over};
 use hx_base::Refusal;
-use hx_mem::MemSink;
-use hx_outside::NoStore;
-use std::alloc::{AllocError, Global};
 use std::test::Fail;
 
 const ONE_ROW: &[u8] = b"id,_healpix_29,cx,cy,cz\n7,0,1000000000,0,0\n";
@@ -81,95 +76,42 @@ fn several_inputs(rt: HostRuntime) -> Result<(), Fail> {
     Ok(())
 }
 
-// Runs a line over sources that tell these lengths and no bytes, and says how often they were read.
-fn run_lengths(
-    alloc: Global,
-    words: &[String],
-    lengths: &[u64],
-) -> Result<(Option<Refusal>, u64), AllocError> {
-    let names = input_names(alloc, words)?;
-    let inputs = blanks(alloc, names.as_slice(), lengths)?;
-    let mut out = MemSink::new(alloc, 100)?;
-    let ran = run_plain(alloc, words, inputs, NoStore::new(), &mut out);
-    let mut reads: u64 = 0;
-    for input in &ran.inputs {
-        reads = reads.saturating_add(input.reads);
-    }
-    Ok((ran.refusal, reads))
-}
-
+// Calls are numbered from 0: the length that is checked, the length again, the first read.
 #[test]
-fn limits_of_inputs(rt: HostRuntime) -> Result<(), Fail> {
-    let alloc = rt.alloc();
-    let cases: [(&str, &[u64], Refusal, u64); 4] = [
+fn faults_and_bad_inputs(rt: HostRuntime) -> Result<(), Fail> {
+    let bad = Refusal::BadInput {
+        input: 0,
+        row: 2,
+        why: 4,
+    };
+    let cases: [(&[&[u8]], &[&[u64]], Refusal); 5] = [
+        // The second input can't be read: the first is bad before it.
+        (&[BAD_ID, ONE_ROW], &[&[], &[1]], bad),
+        (&[BAD_ID, ONE_ROW], &[&[], &[2]], bad),
+        // Its length can't be told: lengths come before rows.
         (
-            "histogram 0 a.csv",
-            &[67_108_865],
-            Refusal::TooMany {
-                what: 2,
-                found: 67_108_865,
-                limit: 67_108_864,
-            },
-            0,
+            &[BAD_ID, ONE_ROW],
+            &[&[], &[0]],
+            Refusal::InputFault { input: 1 },
         ),
+        // The first input can't be read, and the second is bad.
         (
-            "histogram 0 a.csv b.csv c.csv",
-            &[0, 80_000_000, 90_000_000],
-            Refusal::TooMany {
-                what: 2,
-                found: 80_000_000,
-                limit: 67_108_864,
-            },
-            0,
+            &[ONE_ROW, BAD_ID],
+            &[&[2], &[]],
+            Refusal::InputFault { input: 0 },
         ),
-        // A source that is short enough is read, and found to have no header.
+        // The first can't be read, and the second's length can't be told.
         (
-            "histogram 0 a.csv",
-            &[67_108_864],
-            Refusal::BadInput {
-                input: 0,
-                row: 0,
-                why: 1,
-            },
-            1,
+            &[ONE_ROW, ONE_ROW],
+            &[&[1], &[0]],
+            Refusal::InputFault { input: 1 },
         ),
-        ("histogram 0", &[], Refusal::Usage, 0),
     ];
-    for (line, lengths, refusal, reads) in cases {
-        let words = words_of(alloc, line)?;
-        let shown = run_lengths(alloc, words.as_slice(), lengths)?;
-        assert_eq!(rt; shown, (Some(refusal), reads), "{line}");
+    for (contents, failing, refusal) in cases {
+        let line = "histogram 0 a.csv b.csv";
+        let shown = run_over(rt.alloc(), line, contents, ALL, failing, 100)?;
+        assert_eq!(rt; shown.refusal, Some(refusal), "{failing:?}");
+        assert_eq!(rt; shown.written.as_slice(), b"".as_slice(), "{failing:?}");
     }
-    Ok(())
-}
-
-// A line with so many inputs.
-fn long_line(alloc: Global, inputs: usize) -> Result<Vec<String>, AllocError> {
-    let mut words = words_of(alloc, "histogram 0")?;
-    for _ in 0..inputs {
-        words.push(String::from_str(alloc, "a.csv")?)?;
-    }
-    Ok(words)
-}
-
-#[test]
-fn too_many_inputs(rt: HostRuntime) -> Result<(), Fail> {
-    let words = long_line(rt.alloc(), 10_001)?;
-    let shown = run_lengths(rt.alloc(), words.as_slice(), &[90_000_000])?;
-    let refusal = Refusal::TooMany {
-        what: 1,
-        found: 10_001,
-        limit: 10_000,
-    };
-    assert_eq!(rt; shown, (Some(refusal), 0));
-    // One input fewer: the first is asked for its length.
-    let words = long_line(rt.alloc(), 10_000)?;
-    let shown = run_lengths(rt.alloc(), words.as_slice(), &[90_000_000])?;
-    let refusal = Refusal::TooMany {
-        what: 2,
-        found: 90_000_000,
-        limit: 67_108_864,
-    };
-    assert_eq!(rt; shown, (Some(refusal), 0));
     Ok(())
 }

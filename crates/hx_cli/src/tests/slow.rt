@@ -12,13 +12,12 @@ pub struct Slow<Src> {
 }
 
 impl<Src: Source> Source for Slow<Src> {
-    ghost told = { λ source. Src.told source.inner };
-
-    ghost faults = { λ source. Src.faults source.inner };
-
-    ghost label = { λ source. Src.label source.inner };
-
-    ghost short = { λ source. Src.short source.inner };
+    ghost source = { record {
+      told = λ slow. Src.source.told slow.inner;
+      label = λ slow. Src.source.label slow.inner;
+      faults = λ slow. Src.source.faults slow.inner;
+      short = λ slow. Src.source.short slow.inner;
+    } };
 
     fn name(&self) -> &str {
         self.inner.name()

@@ -2,7 +2,7 @@ use Rattle.std.proofs.Common.{◌<◌, ◌∙◌, ◌^◌, arith, length}
 use Rattle.std.specs.Fmt.{decimal}
 use Rattle.std.proofs.lemmas.Fmt.{decimal_nonempty}
 use Rattle.std.proofs.lemmas.List.{length-append}
-use Rattle.hx_cli.proofs.Sources.{get_or_any}
+use Rattle.hx_inputs.proofs.Sources.{get_or_any}
 use Rattle.hx_cli.proofs.Spaced.{spaced_next}
 use Rattle.hx_cli.specs.Neighbours.{with_blank}
 use Rattle.hx_cli.proofs.neighbours.spaced_numbers.Goals as goal
