@@ -1,33 +1,52 @@
-//! A sink over standard output.
-use hx_outside::{Failed, Sink};
-use std::alloc::AllocError;
-use std::io;
-use std::io::Write;
+//! A sink over a stream of the system.
+ghost use Rattle.std.specs.Prelude.{◌≤◌, ◌<◌, IfOk, OnErr, length, take};
+ghost use Rattle.std.specs.Io.KnownBytes.{Appends, Keeps};
+ghost use Rattle.hats.specs.Writes.{WritesOn};
 
-/// Standard output. It tells nothing of what was written.
+#[cfg(test)]
+mod tests;
+
+use hx_outside::{Failed, Sink};
+use std::io::{ErrorKind, Write};
+
+/// A writer, as standard output. It tells nothing of what was written.
 #[derive(Drop)]
-pub struct OutSink<R> {
-    rt: R,
+pub struct OutSink<W> {
+    pub writer: W,
     faults: u64,
 }
 
-impl<R: Print + Clone + Drop> OutSink<R> {
-    pub fn new(rt: &R) -> Result<OutSink<R>, AllocError> {
-        Ok(OutSink {
-            rt: rt.clone()?,
-            faults: 0,
-        })
+impl<W: Write + Drop> OutSink<W> {
+    pub fn new(writer: W) -> OutSink<W> {
+        OutSink { writer, faults: 0 }
     }
 }
 
+// Writes some of the bytes, again where a signal interrupts it. A writer that takes none has failed.
+fn write_some<W: Write>(writer: &mut W, bytes: &[u8]) -> Result<usize, Failed>
+    ensures some { IfOk result (λ count. 0 < count) }
+    ensures bound { IfOk result (λ count. count ≤ length bytes.now) }
+    ensures ok { IfOk result (λ count. Appends (W.contents writer.old) (W.contents writer.new) (take count bytes.now)) }
+    ensures err { OnErr result (Keeps (W.contents writer.old) (W.contents writer.new)) }
+{
+    for _ in 0..u64::MAX {
+        match writer.write(bytes) {
+            Ok(0) => return Err(Failed),
+            Ok(count) => return Ok(count),
+            Err(error) if error.kind() == ErrorKind::Interrupted => {}
+            Err(_) => return Err(Failed),
+        }
+    }
+    Err(Failed)
+}
+
 // Writes all bytes, as many at a time as are taken.
-fn write_all<W: Write>(writer: &mut W, bytes: &[u8]) -> Result<(), Failed> {
+fn write_all<W: Write>(writer: &mut W, bytes: &[u8]) -> Result<(), Failed>
+    ensures { WritesOn (W.contents writer.old) (W.contents writer.new) bytes.now result }
+{
     let mut at = 0;
     while at < bytes.len() {
-        match writer.write(&bytes[at..]) {
-            Ok(0) | Err(_) => return Err(Failed),
-            Ok(count) => at += count,
-        }
+        at += write_some(writer, &bytes[at..])?;
     }
     match writer.flush() {
         Ok(()) => Ok(()),
@@ -35,15 +54,13 @@ fn write_all<W: Write>(writer: &mut W, bytes: &[u8]) -> Result<(), Failed> {
     }
 }
 
-impl<R: Print + Clone + Drop> Sink for OutSink<R> {
+impl<W: Write + Drop> Sink for OutSink<W> {
     ghost use Rattle.std.specs.Prelude.{None};
 
-    ghost written = { λ sink. None };
-
-    ghost faults = { λ sink. sink.faults };
+    ghost sink = { record { written = λ sink. None; faults = λ sink. sink.faults } };
 
     fn write(&mut self, bytes: &[u8]) -> Result<(), Failed> {
-        match write_all(&mut io::writer(&self.rt), bytes) {
+        match write_all(&mut self.writer, bytes) {
             Ok(()) => Ok(()),
             Err(failed) => {
                 self.faults = self.faults.saturating_add(1);

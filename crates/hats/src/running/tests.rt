@@ -1,0 +1,92 @@
+//! Lines over real files, each with its status and with what it writes and tells. Each test begins in an empty folder.
+use super::{Asked, run};
+use crate::asking::with_inputs;
+use crate::file_source::FileSource;
+use crate::out_sink::OutSink;
+use hx_base::Refusal;
+use std::alloc::{AllocError, Global};
+use std::fs;
+use std::test::Fail;
+
+// A sink that takes no memory for so few bytes.
+fn sink(alloc: Global) -> Result<OutSink<Vec<u8>>, AllocError> {
+    Ok(OutSink::new(Vec::with_capacity(alloc, 256)?))
+}
+
+#[test]
+fn lines_end_with_their_statuses(rt: HostRuntime) -> Result<(), Fail> {
+    fs::write(
+        &rt,
+        "good.csv",
+        "id,_healpix_29,cx,cy,cz\n7,0,1000000000,0,0\n",
+    )?;
+    fs::write(&rt, "bad.csv", "id,_healpix_29,cx,cy,cz\n7,0,0,0,0\n")?;
+    let bad = Refusal::BadInput {
+        input: 1,
+        row: 1,
+        why: 8,
+    };
+    let overfull = Refusal::Overfull { pixel: 0, count: 2 };
+    let absent = Refusal::InputFault { input: 1 };
+    // A line, its refusal and status, and what stands on each stream.
+    let cases: [(&str, Option<Refusal>, u8, &str, &str); 6] = [
+        ("histogram 0 good.csv", None, 0, "0,1\n", ""),
+        ("around 0 0", None, 0, "1 2 3 4 5 8\n", ""),
+        ("histogram 0", Some(Refusal::Usage), 1, "", "usage\n"),
+        (
+            "histogram 0 good.csv bad.csv",
+            Some(bad),
+            2,
+            "",
+            "bad input 1 row 1 why 8\n",
+        ),
+        (
+            "plan --threshold 1 --highest 0 good.csv good.csv",
+            Some(overfull),
+            3,
+            "",
+            "overfull pixel 0 count 2\n",
+        ),
+        (
+            "histogram 0 good.csv absent.csv",
+            Some(absent),
+            6,
+            "",
+            "input fault 1\n",
+        ),
+    ];
+    let alloc = rt.alloc();
+    for (line, refusal, status, text, told) in cases {
+        let mut words = Vec::new(alloc);
+        for word in line.split_whitespace() {
+            words.push(String::from_str(alloc, word)?)?;
+        }
+        let (mut out, mut errors) = (sink(alloc)?, sink(alloc)?);
+        let ended = run(alloc, with_inputs(&rt, alloc, words), &mut out, &mut errors);
+        assert_eq!(rt; ended.told, refusal, "{line}");
+        assert_eq!(rt; ended.status, status, "{line}");
+        assert_eq!(rt; out.writer.as_slice(), text.as_bytes(), "{line}");
+        assert_eq!(rt; errors.writer.as_slice(), told.as_bytes(), "{line}");
+    }
+    fs::remove_file(&rt, "good.csv")?;
+    Ok(fs::remove_file(&rt, "bad.csv")?)
+}
+
+#[test]
+fn words_that_are_not_known(rt: HostRuntime) -> Result<(), Fail> {
+    let alloc = rt.alloc();
+    let cases = [
+        (Refusal::Usage, 1, "usage\n"),
+        (Refusal::Memory, 8, "out of memory\n"),
+    ];
+    for (refusal, status, told) in cases {
+        let asked: Result<Asked<FileSource<HostRuntime>>, Refusal> = Err(refusal);
+        let (mut out, mut errors) = (sink(alloc)?, sink(alloc)?);
+        let ended = run(alloc, asked, &mut out, &mut errors);
+        assert_eq!(rt; ended.told, Some(refusal));
+        assert_eq!(rt; ended.status, status);
+        assert_eq!(rt; out.writer.as_slice(), b"".as_slice());
+        assert_eq!(rt; errors.writer.as_slice(), told.as_bytes());
+    }
+    Ok(())
+}
