@@ -10,27 +10,27 @@ use hx_base::{Row, row_of};
 
 // The value of a record's field.
 #[inline]
-fn value_in<F: Fields>(record: &F, column: usize) -> Option<i64>
-    ensures { result ≡ value_of (field (F.fields record.now) column) }
+fn value_in<F: Fields>(line: &F, column: usize) -> Option<i64>
+    ensures { result ≡ value_of (field (F.fields line.now) column) }
 {
-    value_of(record.at(column))
+    value_of(line.at(column))
 }
 
 /// The row of a record, or the first of its faults.
 #[inline]
 #[tactic(auto, unfolding(crate::specs::Csv::row_of_record))]
-pub(crate) fn row_of_record<F: Fields>(header: &Header, record: &F) -> Result<Row, Fault>
-    ensures { result ≡ row_of_record (columns_in header.now) header.now.width (F.fields record.now) }
+pub(crate) fn row_of_record<F: Fields>(header: &Header, line: &F) -> Result<Row, Fault>
+    ensures { result ≡ row_of_record (columns_in header.now) header.now.width (F.fields line.now) }
 {
-    if record.count() != header.width {
+    if line.count() != header.width {
         return Err(Fault::Length);
     }
     let row = row_of(
-        value_in(record, header.hp),
-        value_in(record, header.id),
-        value_in(record, header.x),
-        value_in(record, header.y),
-        value_in(record, header.z),
+        value_in(line, header.hp),
+        value_in(line, header.id),
+        value_in(line, header.x),
+        value_in(line, header.y),
+        value_in(line, header.z),
     )?;
     Ok(row)
 }
