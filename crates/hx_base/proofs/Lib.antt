@@ -3,5 +3,8 @@ pub mod Powers
 pub mod Partitions
 pub mod Ranges
 pub mod RowOrder
+pub mod Chords
+pub mod MatchOrder
+pub mod NearestRows
 pub mod Sorting
 pub mod Ascending

@@ -1,17 +1,41 @@
 -- The five columns of a row: their names, a row's values in them, and the row of five values.
-use Rattle.std.specs.Prelude.{◌∷◌, ◌&&◌, ◌+◌, ℕ, ℤ, pos, neg_ℤ, if◌then◌else◌, List, [], slice_index_or, Option, Some, None, Result, Ok, Err, nat_le, int_le, unsigned_abs, codes}
+use Rattle.std.specs.Prelude.{◌∷◌, ◌&&◌, ◌+◌, ℕ, ℤ, pos, neg_ℤ, if◌then◌else◌, List, [], slice_index_or, Option, Some, None, Result, Ok, Err, nat_le, int_le, map, unsigned_abs, codes}
 use Rattle.hx_base.specs.Rows.{squared_length, tolerance, unit}
 use Rattle.hx_base.specs.declared.row.Row.{Row}
+use Rattle.hx_base.specs.declared.columns.Column.{Column}
+use Rattle.hx_base.specs.declared.columns.Column.TheVariants as column
 use Rattle.hx_base.specs.declared.columns.RowFault.{RowFault}
 use Rattle.hx_base.specs.declared.columns.RowFault.TheVariants as fault
 
--- the names of the columns, in their order
-abbrev pub column_names : List (List ℕ)
-column_names = codes "_healpix_29" ∷ codes "id" ∷ codes "cx" ∷ codes "cy" ∷ codes "cz" ∷ []
+-- the columns, in their order
+abbrev pub columns : List Column
+columns = column.Position ∷ column.Id ∷ column.X ∷ column.Y ∷ column.Z ∷ []
 
--- a row's values, in that order
+abbrev pub name_in : Column → List ℕ
+name_in column.Position = codes "_healpix_29"
+name_in column.Id = codes "id"
+name_in column.X = codes "cx"
+name_in column.Y = codes "cy"
+name_in column.Z = codes "cz"
+
+-- a row's value in a column
+abbrev pub value_in : Column → Row → ℤ
+value_in column.Position row = pos row.hp
+value_in column.Id row = row.id
+value_in column.X row = row.x
+value_in column.Y row = row.y
+value_in column.Z row = row.z
+
+-- the columns' names, and a row's values in them
+abbrev pub column_names : List (List ℕ)
+column_names = map name_in columns
+
 abbrev pub values_of : Row → List ℤ
-values_of row = pos row.hp ∷ row.id ∷ row.x ∷ row.y ∷ row.z ∷ []
+values_of row = map (λ column. value_in column row) columns
+
+-- for each column the values that a list of rows has in it
+abbrev pub columns_of_rows : List Row → List (List ℤ)
+columns_of_rows rows = map (λ column. map (value_in column) rows) columns
 
 -- the number by which a refusal tells a row's fault
 abbrev pub row_fault_number : RowFault → ℕ

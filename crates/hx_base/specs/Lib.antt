@@ -1,5 +1,7 @@
 pub mod Sorted
 pub mod Rows
+pub mod Chords
+pub mod Nearest
 pub mod Columns
 pub mod Pixels
 pub mod Touching
@@ -9,3 +11,5 @@ pub mod FirstRefusals
 pub mod Partitions
 pub mod Names
 pub mod Limits
+pub mod Tasks
+pub mod Paths

@@ -1,6 +1,8 @@
 //! The five columns of a row.
 ghost use Rattle.std.specs.Prelude.{◌≡◌, ◌≤ℤ◌, ◌<◌, ◌*◌, ◌^◌, ◌∷◌, [], IfOk, Ok, Option, Some, List, ℤ, map, pos};
-ghost use Rattle.hx_base.specs.Columns.{column_names, coordinate, position, row_fault_number, row_of, values_of, with_unit_vector, within};
+ghost use Rattle.std.specs.Prelude.{FitsSigned};
+ghost use Rattle.std.specs.Int.{w64};
+ghost use Rattle.hx_base.specs.Columns.{column_names, columns, coordinate, name_in, position, row_fault_number, row_of, value_in, values_of, with_unit_vector, within};
 ghost use Rattle.hx_base.specs.Rows.{IsGood};
 ghost use Rattle.hx_base.specs.declared.row.Row.{Row};
 
@@ -16,7 +18,72 @@ const MOST_COORDINATE: i64 = 2_000_000_000;
 pub fn column_names() -> [&'static str; 5]
     ensures { map (λ name. name.now) result ≡ column_names }
 {
-    ["_healpix_29", "id", "cx", "cy", "cz"]
+    [
+        Column::Position.name(),
+        Column::Id.name(),
+        Column::X.name(),
+        Column::Y.name(),
+        Column::Z.name(),
+    ]
+}
+
+/// A column of a row.
+#[derive(Clone, Copy, Debug, PartialEq, Eq)]
+pub enum Column {
+    /// `_healpix_29`, the row's position.
+    Position,
+    /// `id`.
+    Id,
+    /// The unit vector's coordinates, `cx`, `cy` and `cz`, in 10^-9.
+    X,
+    Y,
+    Z,
+}
+
+impl Column {
+    /// The columns, in the order of a row's values.
+    pub fn all() -> [Column; 5]
+        ensures { result ≡ columns }
+    {
+        [
+            Column::Position,
+            Column::Id,
+            Column::X,
+            Column::Y,
+            Column::Z,
+        ]
+    }
+
+    /// The column's name in a file.
+    pub fn name(self) -> &'static str
+        ensures { result.now ≡ name_in self }
+    {
+        match self {
+            Column::Position => "_healpix_29",
+            Column::Id => "id",
+            Column::X => "cx",
+            Column::Y => "cy",
+            Column::Z => "cz",
+        }
+    }
+}
+
+impl Row {
+    /// The row's value in a column.
+    #[inline]
+    pub fn value(&self, column: Column) -> i64
+        requires { self.now.hp < 2 ^ 63 }
+        ensures value { result ≡ value_in column self.now }
+        ensures fits { FitsSigned w64 result }
+    {
+        match column {
+            Column::Position => self.hp as i64,
+            Column::Id => self.id,
+            Column::X => i64::from(self.x),
+            Column::Y => i64::from(self.y),
+            Column::Z => i64::from(self.z),
+        }
+    }
 }
 
 /// What is wrong with a row's values.
@@ -131,3 +198,34 @@ pub fn rows_of_values()
     ensures own { (row : Row) → IsGood row → row_of (map Some (values_of row)) ≡ Ok row }
     ensures good { (values : List (Option ℤ)) (row : Row) → row_of values ≡ Ok row → IsGood row }
 {}
+
+#[cfg(test)]
+mod tests {
+    use super::*;
+
+    #[test]
+    fn values_of_a_row(rt: HostRuntime) {
+        let row = Row {
+            hp: 5,
+            id: -1,
+            x: -600_000_000,
+            y: 800_000_000,
+            z: 7,
+        };
+        let cases = [
+            ("_healpix_29", 5),
+            ("id", -1),
+            ("cx", -600_000_000),
+            ("cy", 800_000_000),
+            ("cz", 7),
+        ];
+        let columns = Column::all();
+        let names = column_names();
+        for i in 0..5 {
+            let (name, value) = cases[i];
+            assert_eq!(rt; names[i], name);
+            assert_eq!(rt; columns[i].name(), name);
+            assert_eq!(rt; row.value(columns[i]), value);
+        }
+    }
+}

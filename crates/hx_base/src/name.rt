@@ -60,6 +60,15 @@ impl Name {
         Ok(Some(Name { text }))
     }
 
+    /// The same name.
+    pub fn copy(&self) -> Result<Name, AllocError>
+        ensures { IfOk result (λ copy. copy ≡ self.now) }
+    {
+        Ok(Name {
+            text: self.text.clone()?,
+        })
+    }
+
     pub fn as_str(&self) -> &str
         ensures bytes { result.now ≡ self.now }
         ensures rule { IsName self.now }

@@ -95,6 +95,25 @@ impl From<AllocError> for Refusal {
     }
 }
 
+/// Why a work file or a catalogue's text was not read.
+#[derive(Clone, Copy, Debug, PartialEq, Eq)]
+pub enum SpillRefusal {
+    /// Memory ran out.
+    Memory,
+    /// The bytes aren't such a file, from a place on, in bytes.
+    Damaged { place: u64 },
+}
+
+impl From<AllocError> for SpillRefusal {
+    ghost use Rattle.hx_base.specs.declared.refusal.SpillRefusal.TheVariants.{Memory};
+
+    ghost from_gives = { λ _ refusal. refusal ≡ Memory };
+
+    fn from(_error: AllocError) -> SpillRefusal {
+        SpillRefusal::Memory
+    }
+}
+
 impl Refusal {
     /// The exit status of the program.
     pub fn status(&self) -> u8

@@ -1,8 +1,9 @@
-ghost use Rattle.std.specs.Prelude.{◌↔◌, IsTrue};
+ghost use Rattle.std.specs.Prelude.{◌≡◌, ◌↔◌, IfOk, IsTrue};
 ghost use Rattle.hx_base.specs.Limits.{FitsLimits};
 
 use crate::Name;
 use crate::limits::{HIGHEST_MARGIN_ORDER, HIGHEST_ORDER, MOST_IN_PARTITION};
+use std::alloc::AllocError;
 
 /// What an import is asked for: its name and how its rows are cut into partitions.
 #[derive(Drop)]
@@ -20,6 +21,19 @@ pub struct Settings {
 }
 
 impl Settings {
+    /// The same settings.
+    pub fn copy(&self) -> Result<Settings, AllocError>
+        ensures { IfOk result (λ copy. copy ≡ self.now) }
+    {
+        Ok(Settings {
+            name: self.name.copy()?,
+            lowest: self.lowest,
+            highest: self.highest,
+            threshold: self.threshold,
+            margin_order: self.margin_order,
+        })
+    }
+
     /// Whether the orders and the threshold are within their limits: `lowest <= highest <= 20`, `highest <
     /// margin_order <= 24`, and a threshold from 1 to 1000000.
     pub fn fits(&self) -> bool
@@ -64,6 +78,12 @@ mod tests {
                 settings.fits(),
                 fits,
                 "{lowest} {highest} {threshold} {margin_order}"
+            );
+            let copy = settings.copy()?;
+            assert_eq!(rt; copy.name.as_str(), "t");
+            assert_eq!(rt;
+                (copy.lowest, copy.highest, copy.threshold, copy.margin_order),
+                (lowest, highest, threshold, margin_order)
             );
         }
         Ok(())
