@@ -43,7 +43,7 @@ groups_read start (suc most) (byte ∷ bytes) n (inr high) count at more =
     let place : at + 1 + length bytes ≡ at + suc (length bytes) = omega arith in
     rw (le-ltb byte 128 high.0, rest, high.1.1, place) refl
 
-varint_read : Complete IsVarint varint_at
+pub varint_read : Complete IsVarint varint_at
 unfolding varint_at
 varint_read front n is at more = rw (groups_read at 10 front n is.groups is.count at more, lt-ltb n (2 ^ 64) is.fits) refl
 

@@ -1,6 +1,8 @@
 pub mod Complete
-pub mod Ends
 pub mod Groups
 pub mod Passing
+pub mod Shortest
 pub mod Sound
+pub mod Trails
+pub mod Written
 pub mod Zigzags

@@ -116,7 +116,7 @@ sound_groups start (suc most) text y e =
           (λ first second same groups. rw same (inr (ltb-false _ _ more.0, (high.0.0, refl, groups.0)), omega (arith, groups.1))) byte (sound_groups start most low.0.1 high.0 high.1))
     ]
 
-sound_varint : Sound IsVarint varint_at
+pub sound_varint : Sound IsVarint varint_at
 unfolding varint_at
 sound_varint text y e =
     let n = step (groups_at text.at 10 text) e in

@@ -1,6 +1,21 @@
 -- The kinds of value in Apache Thrift's compact protocol: 1 true, 2 false, 3 i8, 4 i16, 5 i32, 6 i64, 7 double, 8 binary, 9 list, 10 set, 11 map, 12 struct.
 use Rattle.std.specs.Prelude.{ℕ, ℤ, pos, negsuc, ◌+◌, ◌-◌, ◌*◌, ◌/◌, ◌%◌, ◌^◌, ◌≤◌, Bool, ◌&&◌, ◌==◌, nat_le, int_le, if◌then◌else◌}
 
+abbrev pub i32_kind : ℕ
+i32_kind = 5
+
+abbrev pub i64_kind : ℕ
+i64_kind = 6
+
+abbrev pub binary_kind : ℕ
+binary_kind = 8
+
+abbrev pub list_kind : ℕ
+list_kind = 9
+
+abbrev pub struct_kind : ℕ
+struct_kind = 12
+
 pub record IsKind (kind : ℕ) : Type 0 where
   pub least : 1 ≤ kind
   pub greatest : kind ≤ 12

@@ -4,10 +4,10 @@ use Rattle.std.specs.Prelude.{◌≡◌, ◌≢◌, ℕ, zero, suc, ◌+◌, ◌
 use Rattle.hx_thrift.specs.declared.header.Field.{Field}
 use Rattle.hx_thrift.specs.declared.header.ListHead.{ListHead}
 use Rattle.hx_thrift.specs.declared.refusal.ThriftRefusal.{ThriftRefusal}
-use Rattle.hx_thrift.specs.Texts.{Text}
+use Rattle.hx_thrift.specs.Texts.{Text, EndsWithin}
 use Rattle.hx_thrift.specs.Kinds.{IsKind, is_id, part_kind, max_size, zigzag, max_zigzag}
 use Rattle.hx_thrift.specs.Values.{Leaf, number, binary, fixed, Entry, Node, leaf, elements, pairs, entries, Value}
-use Rattle.hx_thrift.specs.Reading.{value_at}
+use Rattle.hx_thrift.specs.Reading.{varint_at, value_at}
 
 -- groups of seven bits, the least first: every byte but the last is 128 or more
 abbrev pub AreGroups : List ℕ → ℕ → Type 0
@@ -136,3 +136,19 @@ abbrev pub ReadsOn : Type 0
 ReadsOn = (levels kind : ℕ) (text : Text) (value : Value levels) (rest : Text) (more : List ℕ) → IsKind kind
     → value_at levels kind text ≡ Ok (value, rest)
     → value_at levels kind (record { at = text.at; bytes = text.bytes ++ more }) ≡ Ok (value, record { at = rest.at; bytes = rest.bytes ++ more })
+
+-- What is read of a value ends within its text.
+abbrev pub ReadsWithin : Type 0
+ReadsWithin = (levels kind : ℕ) (text : Text) (value : Value levels) (rest : Text) → IsKind kind
+    → value_at levels kind text ≡ Ok (value, rest) → EndsWithin text rest
+
+-- A text begins with the varint of a number, and rest is what stands behind that.
+pub record BeginsVarint (text : Text) (n : ℕ) (rest : Text) : Type 0 where
+  pub front : List ℕ
+  pub spelled : IsVarint front n
+  pub parts : text.bytes ≡ front ++ rest.bytes
+  pub place : rest.at ≡ text.at + length front
+
+-- A text begins with a varint exactly where reading gives its number.
+abbrev pub ReadsVarints : Type 0
+ReadsVarints = (text : Text) (n : ℕ) (rest : Text) → BeginsVarint text n rest ↔ (varint_at text ≡ Ok (n, rest))

@@ -1,6 +1,6 @@
 -- Texts, and what it is to read from the front of one.
 -- A whole file is the text at place 0. What stands in a file from place a up to place b, and a window of a source that begins at a, are texts at a.
-use Rattle.std.specs.Prelude.{◌≡◌, ℕ, List, Result, Ok, Err}
+use Rattle.std.specs.Prelude.{◌≡◌, ℕ, ◌+◌, ◌≤◌, List, length, Result, Ok, Err}
 use Rattle.hx_thrift.specs.declared.refusal.ThriftRefusal.{ThriftRefusal}
 
 -- a place, and the bytes from there on
@@ -8,13 +8,18 @@ pub record Text : Type 0 where
   pub at : ℕ
   pub bytes : List ℕ
 
+-- A text stands within another one, and both have one end.
+pub record EndsWithin (text rest : Text) : Type 0 where
+  pub later : text.at ≤ rest.at
+  pub same_end : rest.at + length rest.bytes ≡ text.at + length text.bytes
+
 -- what is read at the front of a text, with the text behind it; or the first refusal
 abbrev pub Read : Type 0 → Type 0
 Read A = Result (A × Text) ThriftRefusal
 
--- one reading after another: the first refusal counts
+-- one step after another: the first refusal counts
 infixl 10 ◌>>=◌
-abbrev pub ◌>>=◌ : {A B : Type 0} → Result A ThriftRefusal → (A → Result B ThriftRefusal) → Result B ThriftRefusal
+abbrev pub ◌>>=◌ : {A B E : Type 0} → Result A E → (A → Result B E) → Result B E
 (Ok x) >>= next = next x
 (Err refusal) >>= next = Err refusal
 
@@ -38,7 +43,7 @@ abbrev pub rest_of : {A : Type 0} → Read A → Result Text ThriftRefusal
 rest_of (Ok x) = Ok x.1
 rest_of (Err refusal) = Err refusal
 
--- the same of a call that passes over what is read
+-- the same of a call that passes over what is read, which is some value
 abbrev pub Passes : {X A : Type 0} → (old new : Text) → Result X ThriftRefusal → Read A → Type 0
-Passes old new (Ok x) read = rest_of read ≡ Ok new
+Passes {A = A} old new (Ok x) read = (value : A) × (read ≡ Ok (value, new))
 Passes old new (Err refusal) read = (read ≡ Err refusal) × (new ≡ old)

@@ -8,6 +8,7 @@ ghost use Rattle.hx_thrift.specs.Reading.{own_id_at, id_at, field_at, size_at, l
 ghost use Rattle.hx_thrift.specs.Reading.{struct_at, sequence_at, pair_at, pairs_at, map_at, leaf_at, value_at};
 
 use crate::header::{Field, ListHead};
+use crate::kind::{I16, I32, MAP, STRUCT};
 use crate::refusal::ThriftRefusal;
 use std::marker::Model;
 
@@ -289,8 +290,8 @@ impl<'a> Reader<'a> {
             return Err(ThriftRefusal::TooDeep { at: self.at });
         }
         match kind {
-            12 => self.after_struct(levels - 1),
-            11 => self.after_map(levels - 1),
+            STRUCT => self.after_struct(levels - 1),
+            MAP => self.after_map(levels - 1),
             _ => self.after_sequence(levels - 1),
         }
     }
@@ -443,8 +444,8 @@ fn max_zigzag(kind: u8) -> u64
     ensures { result ≡ max_zigzag kind }
 {
     match kind {
-        4 => 0xffff,
-        5 => 0xffff_ffff,
+        I16 => 0xffff,
+        I32 => 0xffff_ffff,
         _ => u64::MAX,
     }
 }
