@@ -1,9 +1,10 @@
 -- Checks of each of a list, as a loop makes them.
 use Rattle.std.proofs.Common.{◌≡◌, ◌⊎◌, inl, inr, List, [], ◌∷◌, ◌++◌, Result, Ok, Err, refl, sym, ap, ◌∙◌, append_assoc}
 use Rattle.std.proofs.lemmas.List.{append-nil}
+use Rattle.hx_thrift.specs.Texts.{◌>>=◌}
 use Rattle.hx_pqmeta.specs.declared.refusal.PqRefusal.{PqRefusal}
 use Rattle.hx_pqmeta.specs.declared.refusal.PqRefusal.TheVariants.{Memory}
-use Rattle.hx_pqmeta.specs.Refusals.{◌>>=◌, each}
+use Rattle.hx_pqmeta.specs.Refusals.{each}
 
 -- what was made before, and what is still to be made
 abbrev pub each_from : {A B : Type 0} → (A → Result B PqRefusal) → List B → List A → Result (List B) PqRefusal

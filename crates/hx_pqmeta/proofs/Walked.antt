@@ -11,7 +11,7 @@ use Rattle.hx_pqmeta.specs.declared.refusal.PqRefusal.{PqRefusal}
 use Rattle.hx_pqmeta.specs.declared.refusal.PqRefusal.TheVariants.{Thrift}
 use Rattle.hx_pqmeta.specs.Fields.{entries_in}
 use Rattle.hx_pqmeta.specs.Refusals.{place_of, placed}
-use Rattle.hx_pqmeta.specs.Walks.{Refuses}
+use Rattle.hx_pqmeta.specs.Answers.{Refuses}
 
 -- what was read before, and what is still read
 abbrev pub with_front : {B : Type 0} → List B → Read (List B) → Read (List B)
@@ -21,7 +21,7 @@ over : {B : Type 0} (front : List B) (x : B) (read : Read (List B)) → with_fro
 over {B = B} front x (Ok y) = ap (λ (xs : List B). Ok (xs, y.1)) (simp append_assoc)
 over front x (Err refusal) = refl
 
-from_first : {B : Type 0} (read : Read (List B)) → with_front [] read ≡ read
+pub from_first : {B : Type 0} (read : Read (List B)) → with_front [] read ≡ read
 from_first (Ok y) = refl
 from_first (Err refusal) = refl
 

@@ -3,11 +3,13 @@
 use Rattle.std.specs.Prelude.{ℕ, ℤ, pos, List, [], ◌∷◌, map, Bool, ◌&&◌, ◌==◌, if◌then◌else◌, Option, Some, None}
 use Rattle.std.specs.Option.{option_map, option_or, option_and_then, is_some}
 use Rattle.std.specs.Ordering.{int_eq}
+use Rattle.hx_thrift.specs.Kinds.{i32_kind, i64_kind, binary_kind, list_kind, struct_kind}
 use Rattle.hx_thrift.specs.Values.{number, binary, fixed, Entry, Node, leaf, elements, pairs, entries}
 use Rattle.hx_pqmeta.specs.declared.chunk.Chunk.{Chunk}
 use Rattle.hx_pqmeta.specs.declared.chunk.ColumnMetaData.{ColumnMetaData}
 use Rattle.hx_pqmeta.specs.declared.page.DataPageHeader.{DataPageHeader}
 use Rattle.hx_pqmeta.specs.declared.page.PageHeader.{PageHeader}
+use Rattle.hx_pqmeta.specs.Ids.{file_schema, file_rows, file_groups, element_type, element_repetition, element_name, element_children, group_chunks, group_rows, chunk_path, chunk_meta, meta_codec, meta_values, meta_plain_size, meta_stored_size, meta_data_page, meta_dictionary_page, page_type, page_plain_size, page_stored_size, page_data, data_values, data_encoding, data_levels}
 use Rattle.hx_pqmeta.specs.Records.{ElementFields, RowGroupFields, FileFields}
 
 abbrev pub is_entry : (id kind : ℕ) → (entry_id : ℤ) → (entry_kind : ℕ) → Bool
@@ -51,39 +53,39 @@ entries_in (entries es) = es
 abbrev pub structs_of : {A : Type 0} → Node (Node A) → Option (List (List (Entry A)))
 structs_of (leaf x) = None
 structs_of (elements kind []) = Some []
-structs_of (elements kind (x ∷ xs)) = if kind == 12 then Some (map entries_in (x ∷ xs)) else None
+structs_of (elements kind (x ∷ xs)) = if kind == struct_kind then Some (map entries_in (x ∷ xs)) else None
 structs_of (pairs xs) = None
 structs_of (entries es) = None
 
 -- fields of the kinds i32, i64, binary, struct and list of structs
 abbrev pub int32 : {A : Type 0} → ℕ → List (Entry (Node A)) → Option ℤ
-int32 id es = last number_of id 5 es
+int32 id es = last number_of id i32_kind es
 
 abbrev pub int64 : {A : Type 0} → ℕ → List (Entry (Node A)) → Option ℤ
-int64 id es = last number_of id 6 es
+int64 id es = last number_of id i64_kind es
 
 abbrev pub bytes : {A : Type 0} → ℕ → List (Entry (Node A)) → Option (List ℕ)
-bytes id es = last bytes_of id 8 es
+bytes id es = last bytes_of id binary_kind es
 
 abbrev pub struct : {A : Type 0} → ℕ → List (Entry (Node A)) → Option (List (Entry A))
-struct id es = last entries_of id 12 es
+struct id es = last entries_of id struct_kind es
 
 abbrev pub structs : {A : Type 0} → ℕ → List (Entry (Node (Node A))) → Option (List (List (Entry A)))
-structs id es = last structs_of id 9 es
+structs id es = last structs_of id list_kind es
 
 -- SchemaElement, struct 2
 abbrev pub element_of : {A : Type 0} → List (Entry (Node A)) → ElementFields
-element_of es = record { kind = int32 1 es; repetition = int32 3 es; name = bytes 4 es; children = int32 5 es }
+element_of es = record { kind = int32 element_type es; repetition = int32 element_repetition es; name = bytes element_name es; children = int32 element_children es }
 
 -- ColumnMetaData, struct 5
 abbrev pub meta_data_of : {A : Type 0} → List (Entry (Node A)) → ColumnMetaData
 meta_data_of es = record {
-  codec = int32 4 es;
-  values = int64 5 es;
-  plain_size = int64 6 es;
-  stored_size = int64 7 es;
-  data_page = int64 9 es;
-  dictionary_page = int64 11 es;
+  codec = int32 meta_codec es;
+  values = int64 meta_values es;
+  plain_size = int64 meta_plain_size es;
+  stored_size = int64 meta_stored_size es;
+  data_page = int64 meta_data_page es;
+  dictionary_page = int64 meta_dictionary_page es;
 }
 
 -- a chunk with its path and its meta data, whose fields are absent where the meta data is
@@ -101,29 +103,29 @@ chunk_with has_path meta = record {
 
 -- ColumnChunk, struct 4
 abbrev pub chunk_of : {A : Type 0} → List (Entry (Node (Node A))) → Chunk
-chunk_of es = chunk_with (is_some (bytes 1 es)) (option_map meta_data_of (struct 3 es))
+chunk_of es = chunk_with (is_some (bytes chunk_path es)) (option_map meta_data_of (struct chunk_meta es))
 
 -- RowGroup, struct 3
 abbrev pub row_group_of : {A : Type 0} → List (Entry (Node (Node (Node (Node A))))) → RowGroupFields
-row_group_of es = record { chunks = option_map (map chunk_of) (structs 1 es); rows = int64 3 es }
+row_group_of es = record { chunks = option_map (map chunk_of) (structs group_chunks es); rows = int64 group_rows es }
 
 -- FileMetaData, struct 1
 abbrev pub file_of : {A : Type 0} → List (Entry (Node (Node (Node (Node (Node (Node A))))))) → FileFields
 file_of es = record {
-  schema = option_map (map element_of) (structs 2 es);
-  rows = int64 3 es;
-  groups = option_map (map row_group_of) (structs 4 es);
+  schema = option_map (map element_of) (structs file_schema es);
+  rows = int64 file_rows es;
+  groups = option_map (map row_group_of) (structs file_groups es);
 }
 
 -- DataPageHeader, struct 7
 abbrev pub data_page_header_of : {A : Type 0} → List (Entry (Node A)) → DataPageHeader
-data_page_header_of es = record { values = int32 1 es; encoding = int32 2 es; levels = int32 3 es }
+data_page_header_of es = record { values = int32 data_values es; encoding = int32 data_encoding es; levels = int32 data_levels es }
 
 -- PageHeader, struct 6
 abbrev pub page_header_of : {A : Type 0} → List (Entry (Node (Node A))) → PageHeader
 page_header_of es = record {
-  kind = int32 1 es;
-  plain_size = int32 2 es;
-  stored_size = int32 3 es;
-  data_page = option_map data_page_header_of (struct 5 es);
+  kind = int32 page_type es;
+  plain_size = int32 page_plain_size es;
+  stored_size = int32 page_stored_size es;
+  data_page = option_map data_page_header_of (struct page_data es);
 }

@@ -1,16 +1,18 @@
 -- The footer of a Parquet file, or the first refusal.
 -- A file is PAR1, pages, the footer, the footer's length in four bytes, and PAR1.
-use Rattle.std.specs.Prelude.{ℕ, ℤ, pos, ◌-◌, ◌+ℤ◌, List, [], ◌∷◌, length, take, drop, map, Bool, false, ◌&&◌, ◌||◌, not, nat_eq, nat_le, int_le, int_lt, Option, Some, None, Result, Ok, Err, if◌then◌else◌}
+use Rattle.std.specs.Prelude.{ℕ, ℤ, pos, ◌+◌, ◌-◌, ◌+ℤ◌, List, [], ◌∷◌, length, take, drop, map, Bool, false, ◌&&◌, ◌||◌, not, nat_eq, nat_le, int_le, int_lt, Option, Some, None, Result, Ok, Err, if◌then◌else◌}
 use Rattle.std.specs.Int.{w32, from_le_bytes}
 use Rattle.std.specs.List.{starts_with, ends_with, list_any, list_all}
 use Rattle.std.specs.Ordering.{int_eq}
-use Rattle.hx_thrift.specs.Texts.{Text}
+use Rattle.hx_thrift.specs.Texts.{Text, ◌>>=◌}
 use Rattle.hx_thrift.specs.Reading.{value_at, struct_at}
 use Rattle.hx_pqmeta.specs.declared.refusal.PqRefusal.{PqRefusal}
 use Rattle.hx_pqmeta.specs.declared.refusal.PqRefusal.TheVariants.{NotParquet, Missing, Nested, Counts}
 use Rattle.hx_pqmeta.specs.Records.{ElementFields, RowGroupFields, FileFields, LeafRecord, GroupRecord, FooterRecord}
-use Rattle.hx_pqmeta.specs.Refusals.{◌>>=◌, placed, needed, each}
+use Rattle.hx_pqmeta.specs.Refusals.{placed, needed, each}
+use Rattle.hx_pqmeta.specs.Enumerations.{required, optional}
 use Rattle.hx_pqmeta.specs.Fields.{file_of}
+use Rattle.hx_pqmeta.specs.Naturals.{natural}
 
 -- PAR1
 abbrev pub magic : List ℕ
@@ -63,9 +65,9 @@ abbrev pub is_above_zero : Option ℤ → Bool
 is_above_zero None = false
 is_above_zero (Some n) = int_lt (pos 0) n
 
--- a leaf with children, or one that is neither REQUIRED (0) nor OPTIONAL (1)
+-- a leaf with children, or one that is neither REQUIRED nor OPTIONAL
 abbrev pub is_nested : LeafRecord → Bool
-is_nested leaf = is_above_zero leaf.children || not (int_eq leaf.repetition (pos 0) || int_eq leaf.repetition (pos 1))
+is_nested leaf = is_above_zero leaf.children || not (int_eq leaf.repetition required || int_eq leaf.repetition optional)
 
 abbrev pub sum_of : List ℤ → ℤ
 sum_of [] = pos 0
@@ -74,6 +76,11 @@ sum_of (n ∷ ns) = n +ℤ sum_of ns
 -- counts of rows that aren't negative and sum to that of the file
 abbrev pub are_counts : (rows : ℤ) → List ℤ → Bool
 are_counts rows counts = int_le (pos 0) rows && list_all (λ count. int_le (pos 0) count) counts && int_eq (sum_of counts) rows
+
+-- how many rows groups have
+abbrev pub rows_of : List GroupRecord → ℕ
+rows_of [] = 0
+rows_of (group ∷ groups) = natural group.rows + rows_of groups
 
 -- the footer of a flat table whose rows are counted right
 unfoldable pub sound : FooterRecord → Result FooterRecord PqRefusal

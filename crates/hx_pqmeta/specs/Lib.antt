@@ -1,7 +1,12 @@
+pub mod Answers
+pub mod Enumerations
 pub mod Fields
 pub mod Files
 pub mod Footers
+pub mod Ids
+pub mod Naturals
 pub mod PageHeaders
 pub mod Records
 pub mod Refusals
-pub mod Walks
+pub mod Writing
+pub mod WrittenFields

@@ -1,13 +1,14 @@
 -- The header of a page, or the first refusal.
 use Rattle.std.specs.Prelude.{ℕ, ℤ, pos, Option, None, Result, Ok, if◌then◌else◌}
 use Rattle.std.specs.Ordering.{int_eq}
-use Rattle.hx_thrift.specs.Texts.{Text}
+use Rattle.hx_thrift.specs.Texts.{Text, ◌>>=◌}
 use Rattle.hx_thrift.specs.Reading.{value_at, struct_at}
 use Rattle.hx_pqmeta.specs.declared.refusal.PqRefusal.{PqRefusal}
 use Rattle.hx_pqmeta.specs.declared.page.DataPageHeader.{DataPageHeader}
 use Rattle.hx_pqmeta.specs.declared.page.PageHead.{PageHead}
 use Rattle.hx_pqmeta.specs.declared.page.PageHeader.{PageHeader}
-use Rattle.hx_pqmeta.specs.Refusals.{◌>>=◌, placed, needed}
+use Rattle.hx_pqmeta.specs.Refusals.{placed, needed}
+use Rattle.hx_pqmeta.specs.Enumerations.{data_page}
 use Rattle.hx_pqmeta.specs.Fields.{page_header_of}
 
 -- the head of a page of which nothing but its type and sizes is known
@@ -44,7 +45,7 @@ page_head_of header next = do
   kind ← needed 601 header.kind
   plain_size ← needed 602 header.plain_size
   stored_size ← needed 603 header.stored_size
-  if int_eq kind (pos 0)
+  if int_eq kind data_page
       then with_data_page (plain_head kind plain_size stored_size next) header.data_page
       else Ok (plain_head kind plain_size stored_size next)
 

@@ -2,13 +2,9 @@
 use Rattle.std.specs.Prelude.{◌≡◌, ℕ, List, [], ◌∷◌, Option, Some, None, Result, Ok, Err, ◌⊎◌}
 use Rattle.hx_thrift.specs.declared.refusal.ThriftRefusal.{ThriftRefusal}
 use Rattle.hx_thrift.specs.declared.refusal.ThriftRefusal.TheVariants.{Short, BadType, TooDeep, Overlong}
+use Rattle.hx_thrift.specs.Texts.{◌>>=◌}
 use Rattle.hx_pqmeta.specs.declared.refusal.PqRefusal.{PqRefusal}
 use Rattle.hx_pqmeta.specs.declared.refusal.PqRefusal.TheVariants.{Memory, Thrift, Missing}
-
-infixl 10 ◌>>=◌
-abbrev pub ◌>>=◌ : {A B : Type 0} → Result A PqRefusal → (A → Result B PqRefusal) → Result B PqRefusal
-(Ok x) >>= next = next x
-(Err refusal) >>= next = Err refusal
 
 abbrev pub place_of : ThriftRefusal → ℕ
 place_of (Short at) = at

@@ -1,14 +1,19 @@
-ghost use Rattle.hx_pqmeta.specs.Fields.{meta_data_of, chunk_of};
+ghost use Rattle.std.specs.Prelude.{◌≡◌, Some};
+ghost use Rattle.hx_pqmeta.specs.Fields.{meta_data_of, chunk_with, chunk_of};
 
-use crate::listing::Fresh;
+use crate::ids::{
+    CHUNK_META, CHUNK_PATH, META_CODEC, META_DATA_PAGE, META_DICTIONARY_PAGE, META_PLAIN_SIZE,
+    META_STORED_SIZE, META_VALUES,
+};
 use crate::refusal::PqRefusal;
-use crate::sight::see;
-use crate::walking::{Kept, is_entry, walk};
+use crate::structs::{Element, Struct, read_struct};
+use crate::values::{binary, int32, int64, pass};
+use hx_thrift::kind::{BINARY, I32, I64, STRUCT};
 use hx_thrift::{Field, Reader};
 use std::alloc::Global;
 
 /// The values of a column in a row group.
-#[derive(Clone, Copy, Debug, PartialEq, Eq)]
+#[derive(Clone, Copy, Debug, Default, PartialEq, Eq)]
 pub struct Chunk {
     /// Whether the values stand in another file.
     pub has_path: bool,
@@ -29,7 +34,7 @@ pub struct Chunk {
 }
 
 /// The fields of the struct ColumnMetaData.
-#[derive(Clone, Copy)]
+#[derive(Clone, Copy, Default)]
 pub struct ColumnMetaData {
     pub codec: Option<i32>,
     pub values: Option<i64>,
@@ -39,78 +44,77 @@ pub struct ColumnMetaData {
     pub dictionary_page: Option<i64>,
 }
 
-// What no entries say.
-const NO_META_DATA: ColumnMetaData = ColumnMetaData {
-    codec: None,
-    values: None,
-    plain_size: None,
-    stored_size: None,
-    data_page: None,
-    dictionary_page: None,
-};
-
-const NO_CHUNK: Chunk = Chunk {
-    has_path: false,
-    has_meta: false,
-    codec: None,
-    values: None,
-    plain_size: None,
-    stored_size: None,
-    data_page: None,
-    dictionary_page: None,
-};
-
-impl<'a> Kept<'a> for ColumnMetaData {
-    ghost wants = { ⊥ };
-
+impl<'a> Struct<'a> for ColumnMetaData {
     ghost levels = { 26 };
+
+    ghost wants = { ⊥ };
 
     ghost said = { λ es. meta_data_of es };
 
-    fn keep(&mut self, reader: &mut Reader<'a>, field: Field) -> Result<(), PqRefusal> {
-        let sight = see(reader, field, 6)?;
-        self.codec = sight.int32(4).or(self.codec);
-        self.values = sight.int64(5).or(self.values);
-        self.plain_size = sight.int64(6).or(self.plain_size);
-        self.stored_size = sight.int64(7).or(self.stored_size);
-        self.data_page = sight.int64(9).or(self.data_page);
-        self.dictionary_page = sight.int64(11).or(self.dictionary_page);
+    fn read_entry(
+        &mut self,
+        reader: &mut Reader<'a>,
+        field: Field,
+        depth: u32,
+    ) -> Result<(), PqRefusal> {
+        match (field.id, field.kind) {
+            (META_CODEC, I32) => self.codec = int32(reader)?,
+            (META_VALUES, I64) => self.values = int64(reader)?,
+            (META_PLAIN_SIZE, I64) => self.plain_size = int64(reader)?,
+            (META_STORED_SIZE, I64) => self.stored_size = int64(reader)?,
+            (META_DATA_PAGE, I64) => self.data_page = int64(reader)?,
+            (META_DICTIONARY_PAGE, I64) => self.dictionary_page = int64(reader)?,
+            (_, kind) => pass(reader, kind, depth)?,
+        }
         Ok(())
     }
 }
 
-impl<'a> Kept<'a> for Chunk {
-    ghost wants = { ⊥ };
+impl Chunk {
+    // With this meta data in place of what it had.
+    fn with_meta(&self, meta: ColumnMetaData) -> Chunk
+        ensures { result ≡ chunk_with self.now.has_path (Some meta) }
+    {
+        Chunk {
+            has_path: self.has_path,
+            has_meta: true,
+            codec: meta.codec,
+            values: meta.values,
+            plain_size: meta.plain_size,
+            stored_size: meta.stored_size,
+            data_page: meta.data_page,
+            dictionary_page: meta.dictionary_page,
+        }
+    }
+}
 
+impl<'a> Struct<'a> for Chunk {
     ghost levels = { 27 };
+
+    ghost wants = { ⊥ };
 
     ghost said = { λ es. chunk_of es };
 
     #[tactic(auto, unfolding(crate::specs::Fields::last))]
-    fn keep(&mut self, reader: &mut Reader<'a>, field: Field) -> Result<(), PqRefusal> {
-        if is_entry(&field, 3, 12) {
-            let meta = walk(reader, NO_META_DATA)?;
-            *self = Chunk {
-                has_path: self.has_path,
-                has_meta: true,
-                codec: meta.codec,
-                values: meta.values,
-                plain_size: meta.plain_size,
-                stored_size: meta.stored_size,
-                data_page: meta.data_page,
-                dictionary_page: meta.dictionary_page,
-            };
-            return Ok(());
+    fn read_entry(
+        &mut self,
+        reader: &mut Reader<'a>,
+        field: Field,
+        depth: u32,
+    ) -> Result<(), PqRefusal> {
+        let empty = ColumnMetaData::default();
+        match (field.id, field.kind) {
+            (CHUNK_PATH, BINARY) => self.has_path = binary(reader)?.is_some(),
+            (CHUNK_META, STRUCT) => *self = self.with_meta(read_struct(reader, empty, depth)?),
+            (_, kind) => pass(reader, kind, depth)?,
         }
-        let sight = see(reader, field, 5)?;
-        self.has_path |= sight.bytes(1).is_some();
         Ok(())
     }
 }
 
-impl<'a> Fresh<'a> for Chunk {
+impl<'a> Element<'a> for Chunk {
     #[tactic(auto, unfolding(crate::specs::Fields::last))]
-    fn fresh(_alloc: Global) -> Chunk {
-        NO_CHUNK
+    fn empty(_alloc: Global) -> Chunk {
+        Chunk::default()
     }
 }

@@ -2,12 +2,13 @@ ghost use Rattle.std.specs.Option.{option_map};
 ghost use Rattle.hx_pqmeta.specs.Records.{FileFields};
 ghost use Rattle.hx_pqmeta.specs.Fields.{file_of};
 
-use crate::listing::{Fresh, structs, update};
+use crate::ids::{FILE_GROUPS, FILE_ROWS, FILE_SCHEMA};
 use crate::refusal::PqRefusal;
 use crate::row_group::RowGroup;
 use crate::schema::SchemaElement;
-use crate::sight::see;
-use crate::walking::{Kept, is_entry};
+use crate::structs::{Element, Struct, read_list};
+use crate::values::{int64, pass};
+use hx_thrift::kind::{I64, LIST};
 use hx_thrift::{Field, Reader};
 use std::alloc::Global;
 use std::marker::Model;
@@ -27,32 +28,32 @@ impl<'a> Model for FileMetaData<'a> {
     ghost view = { λ s. record { schema = option_map (λ v. v.items) s.schema; rows = s.rows; groups = option_map (λ v. v.items) s.groups } };
 }
 
-impl<'a> Kept<'a> for FileMetaData<'a> {
-    ghost wants = { Unit {0} };
-
+impl<'a> Struct<'a> for FileMetaData<'a> {
     ghost levels = { 31 };
+
+    ghost wants = { Unit {0} };
 
     ghost said = { λ es. file_of es };
 
-    fn keep(&mut self, reader: &mut Reader<'a>, field: Field) -> Result<(), PqRefusal> {
-        if is_entry(&field, 2, 9) {
-            let found = structs(self.alloc, reader, 1)?;
-            update(&mut self.schema, found);
-            return Ok(());
+    fn read_entry(
+        &mut self,
+        reader: &mut Reader<'a>,
+        field: Field,
+        depth: u32,
+    ) -> Result<(), PqRefusal> {
+        match (field.id, field.kind) {
+            (FILE_SCHEMA, LIST) => read_list(self.alloc, reader, &mut self.schema, depth)?,
+            (FILE_ROWS, I64) => self.rows = int64(reader)?,
+            (FILE_GROUPS, LIST) => read_list(self.alloc, reader, &mut self.groups, depth)?,
+            (_, kind) => pass(reader, kind, depth)?,
         }
-        if is_entry(&field, 4, 9) {
-            let found = structs(self.alloc, reader, 1)?;
-            update(&mut self.groups, found);
-            return Ok(());
-        }
-        self.rows = see(reader, field, 1)?.int64(3).or(self.rows);
         Ok(())
     }
 }
 
-impl<'a> Fresh<'a> for FileMetaData<'a> {
+impl<'a> Element<'a> for FileMetaData<'a> {
     #[tactic(auto, unfolding(crate::specs::Fields::last))]
-    fn fresh(alloc: Global) -> FileMetaData<'a> {
+    fn empty(alloc: Global) -> FileMetaData<'a> {
         FileMetaData {
             alloc,
             schema: None,

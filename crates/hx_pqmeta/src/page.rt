@@ -3,10 +3,16 @@ ghost use Rattle.hx_pqmeta.specs.Refusals.{needed};
 ghost use Rattle.hx_pqmeta.specs.Fields.{data_page_header_of, page_header_of};
 ghost use Rattle.hx_pqmeta.specs.PageHeaders.{with_data_page, page_head_of, page_head_at};
 
+use crate::enumerations::DATA_PAGE;
+use crate::ids::{
+    DATA_ENCODING, DATA_LEVELS, DATA_VALUES, PAGE_DATA, PAGE_PLAIN_SIZE, PAGE_STORED_SIZE,
+    PAGE_TYPE,
+};
 use crate::refusal::{PqRefusal, needed};
-use crate::sight::see;
-use crate::walking::{Kept, is_entry, walk};
-use hx_thrift::{Field, Reader};
+use crate::structs::{Struct, read_entries, read_struct};
+use crate::values::{int32, pass};
+use hx_thrift::kind::{I32, STRUCT};
+use hx_thrift::{Field, Reader, reading_is_spelling};
 
 /// The header of a page.
 #[derive(Clone, Copy, Debug, PartialEq, Eq)]
@@ -29,7 +35,7 @@ pub struct PageHead {
 }
 
 /// The fields of the struct DataPageHeader.
-#[derive(Clone, Copy)]
+#[derive(Clone, Copy, Default)]
 pub struct DataPageHeader {
     pub values: Option<i32>,
     pub encoding: Option<i32>,
@@ -37,7 +43,7 @@ pub struct DataPageHeader {
 }
 
 /// The fields of the struct PageHeader.
-#[derive(Clone, Copy)]
+#[derive(Clone, Copy, Default)]
 pub struct PageHeader {
     pub kind: Option<i32>,
     pub plain_size: Option<i32>,
@@ -45,53 +51,51 @@ pub struct PageHeader {
     pub data_page: Option<DataPageHeader>,
 }
 
-// What no entries say.
-const NO_DATA_PAGE: DataPageHeader = DataPageHeader {
-    values: None,
-    encoding: None,
-    levels: None,
-};
-
-const NO_PAGE: PageHeader = PageHeader {
-    kind: None,
-    plain_size: None,
-    stored_size: None,
-    data_page: None,
-};
-
-impl<'a> Kept<'a> for DataPageHeader {
-    ghost wants = { ⊥ };
-
+impl<'a> Struct<'a> for DataPageHeader {
     ghost levels = { 30 };
+
+    ghost wants = { ⊥ };
 
     ghost said = { λ es. data_page_header_of es };
 
-    fn keep(&mut self, reader: &mut Reader<'a>, field: Field) -> Result<(), PqRefusal> {
-        let sight = see(reader, field, 2)?;
-        self.values = sight.int32(1).or(self.values);
-        self.encoding = sight.int32(2).or(self.encoding);
-        self.levels = sight.int32(3).or(self.levels);
+    fn read_entry(
+        &mut self,
+        reader: &mut Reader<'a>,
+        field: Field,
+        depth: u32,
+    ) -> Result<(), PqRefusal> {
+        match (field.id, field.kind) {
+            (DATA_VALUES, I32) => self.values = int32(reader)?,
+            (DATA_ENCODING, I32) => self.encoding = int32(reader)?,
+            (DATA_LEVELS, I32) => self.levels = int32(reader)?,
+            (_, kind) => pass(reader, kind, depth)?,
+        }
         Ok(())
     }
 }
 
-impl<'a> Kept<'a> for PageHeader {
-    ghost wants = { ⊥ };
-
+impl<'a> Struct<'a> for PageHeader {
     ghost levels = { 31 };
+
+    ghost wants = { ⊥ };
 
     ghost said = { λ es. page_header_of es };
 
     #[tactic(auto, unfolding(crate::specs::Fields::last))]
-    fn keep(&mut self, reader: &mut Reader<'a>, field: Field) -> Result<(), PqRefusal> {
-        if is_entry(&field, 5, 12) {
-            self.data_page = Some(walk(reader, NO_DATA_PAGE)?);
-            return Ok(());
+    fn read_entry(
+        &mut self,
+        reader: &mut Reader<'a>,
+        field: Field,
+        depth: u32,
+    ) -> Result<(), PqRefusal> {
+        let empty = DataPageHeader::default();
+        match (field.id, field.kind) {
+            (PAGE_TYPE, I32) => self.kind = int32(reader)?,
+            (PAGE_PLAIN_SIZE, I32) => self.plain_size = int32(reader)?,
+            (PAGE_STORED_SIZE, I32) => self.stored_size = int32(reader)?,
+            (PAGE_DATA, STRUCT) => self.data_page = Some(read_struct(reader, empty, depth)?),
+            (_, kind) => pass(reader, kind, depth)?,
         }
-        let sight = see(reader, field, 1)?;
-        self.kind = sight.int32(1).or(self.kind);
-        self.plain_size = sight.int32(2).or(self.plain_size);
-        self.stored_size = sight.int32(3).or(self.stored_size);
         Ok(())
     }
 }
@@ -126,7 +130,7 @@ fn page_head(header: PageHeader, next: u64) -> Result<PageHead, PqRefusal>
         levels: None,
         next,
     };
-    if head.kind == 0 {
+    if head.kind == DATA_PAGE {
         with_data_page(head, header.data_page)
     } else {
         Ok(head)
@@ -143,7 +147,8 @@ pub fn read_page_header(bytes: &[u8], at: u64) -> Result<PageHead, PqRefusal>
     ensures next { IfOk result (λ head. (at ≤ head.next) × (head.next ≤ at + length bytes.now)) }
     ensures value { result ≡ page_head_at (record { at = at; bytes = bytes.now }) }
 {
+    reading_is_spelling();
     let mut reader = Reader::new(bytes, at);
-    let header = walk(&mut reader, NO_PAGE)?;
+    let header = read_entries(&mut reader, PageHeader::default(), 1)?;
     page_head(header, reader.place())
 }

@@ -2,20 +2,20 @@ ghost use Rattle.std.specs.Prelude.{◌≡◌, ◌↔◌, pos, ◌≤ℤ◌, IfO
 ghost use Rattle.std.specs.List.{list_any};
 ghost use Rattle.std.specs.Option.{option_map};
 ghost use Rattle.hx_pqmeta.specs.Refusals.{AnswersOrWants, each};
-ghost use Rattle.hx_pqmeta.specs.Footers.{footer_len, is_parquet, footer_text, below_root, leaf_of, group_of, footer_of, is_above_zero, is_nested, are_counts, sound, footer_at, footer_in};
+ghost use Rattle.hx_pqmeta.specs.Footers.{footer_len, is_parquet, footer_text, below_root, leaf_of, group_of, footer_of, is_above_zero, is_nested, are_counts, rows_of, sound, footer_at, footer_in};
 
+use crate::enumerations::{OPTIONAL, REQUIRED};
 use crate::file::FileMetaData;
 use crate::footer::{Footer, Group, Leaf};
-use crate::listing::Fresh;
 use crate::refusal::{PqRefusal, needed};
 use crate::row_group::RowGroup;
 use crate::schema::SchemaElement;
-use crate::walking::walk;
+use crate::structs::{Element, read_entries};
 use hx_thrift::Reader;
 use std::alloc::Global;
 
-// What a file begins and ends with.
-const MAGIC: [u8; 4] = *b"PAR1";
+/// What a file begins and ends with.
+pub const MAGIC: [u8; 4] = *b"PAR1";
 
 // The bytes behind the footer: its length, and the last mark.
 const TAIL: usize = 8;
@@ -29,6 +29,7 @@ const TAIL: usize = 8;
 #[tactic(auto, unfolding(crate::specs::Footers::footer_in))]
 pub fn read_footer(alloc: Global, bytes: &[u8]) -> Result<Footer, PqRefusal>
     ensures start { IfOk result (λ footer. (4 ≤ footer.start) × (footer.start + 8 ≤ length bytes.now)) }
+    ensures rows { IfOk result (λ footer. rows_of footer.groups < 2 ^ 63) }
     ensures value { AnswersOrWants (λ footer. footer) result (footer_in bytes.now) }
 {
     let (start, footer) = footer_text(bytes)?;
@@ -73,10 +74,11 @@ fn footer_len(bytes: &[u8]) -> usize
 fn footer_at(alloc: Global, bytes: &[u8], start: u64) -> Result<Footer, PqRefusal>
     requires { start + length bytes.now < 2 ^ 64 }
     ensures start { IfOk result (λ footer. footer.start ≡ start) }
+    ensures rows { IfOk result (λ footer. rows_of footer.groups < 2 ^ 63) }
     ensures value { AnswersOrWants (λ footer. footer) result (footer_at (record { at = start; bytes = bytes.now })) }
 {
     let mut reader = Reader::new(bytes, start);
-    let fields = walk(&mut reader, FileMetaData::fresh(alloc))?;
+    let fields = read_entries(&mut reader, FileMetaData::empty(alloc), 1)?;
     sound(footer_of(alloc, start, fields)?)
 }
 
@@ -149,6 +151,7 @@ fn group_of(fields: RowGroup) -> Result<Group, PqRefusal>
 #[tactic(auto, unfolding(crate::specs::Footers::sound))]
 fn sound(footer: Footer) -> Result<Footer, PqRefusal>
     ensures start { IfOk result (λ x. x.start ≡ footer.start) }
+    ensures rows { IfOk result (λ x. rows_of x.groups < 2 ^ 63) }
     ensures value { AnswersOrWants (λ footer. footer) result (sound footer) }
 {
     if has_nested(footer.leaves()) {
@@ -170,7 +173,8 @@ fn has_nested(leaves: &[Leaf]) -> bool
 fn is_nested(leaf: &Leaf) -> bool
     ensures { result ≡ is_nested leaf.now }
 {
-    is_above_zero(leaf.children()) || !(leaf.repetition() == 0 || leaf.repetition() == 1)
+    is_above_zero(leaf.children())
+        || !(leaf.repetition() == REQUIRED || leaf.repetition() == OPTIONAL)
 }
 
 fn is_above_zero(number: Option<i32>) -> bool

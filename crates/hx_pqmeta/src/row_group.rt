@@ -3,10 +3,11 @@ ghost use Rattle.hx_pqmeta.specs.Records.{RowGroupFields};
 ghost use Rattle.hx_pqmeta.specs.Fields.{row_group_of};
 
 use crate::chunk::Chunk;
-use crate::listing::{Fresh, structs, update};
+use crate::ids::{GROUP_CHUNKS, GROUP_ROWS};
 use crate::refusal::PqRefusal;
-use crate::sight::see;
-use crate::walking::{Kept, is_entry};
+use crate::structs::{Element, Struct, read_list};
+use crate::values::{int64, pass};
+use hx_thrift::kind::{I64, LIST};
 use hx_thrift::{Field, Reader};
 use std::alloc::Global;
 use std::marker::Model;
@@ -25,27 +26,31 @@ impl Model for RowGroup {
     ghost view = { λ s. record { chunks = option_map (λ v. v.items) s.chunks; rows = s.rows } };
 }
 
-impl<'a> Kept<'a> for RowGroup {
-    ghost wants = { Unit {0} };
-
+impl<'a> Struct<'a> for RowGroup {
     ghost levels = { 29 };
+
+    ghost wants = { Unit {0} };
 
     ghost said = { λ es. row_group_of es };
 
-    fn keep(&mut self, reader: &mut Reader<'a>, field: Field) -> Result<(), PqRefusal> {
-        if is_entry(&field, 1, 9) {
-            let found = structs(self.alloc, reader, 3)?;
-            update(&mut self.chunks, found);
-            return Ok(());
+    fn read_entry(
+        &mut self,
+        reader: &mut Reader<'a>,
+        field: Field,
+        depth: u32,
+    ) -> Result<(), PqRefusal> {
+        match (field.id, field.kind) {
+            (GROUP_CHUNKS, LIST) => read_list(self.alloc, reader, &mut self.chunks, depth)?,
+            (GROUP_ROWS, I64) => self.rows = int64(reader)?,
+            (_, kind) => pass(reader, kind, depth)?,
         }
-        self.rows = see(reader, field, 3)?.int64(3).or(self.rows);
         Ok(())
     }
 }
 
-impl<'a> Fresh<'a> for RowGroup {
+impl<'a> Element<'a> for RowGroup {
     #[tactic(auto, unfolding(crate::specs::Fields::last))]
-    fn fresh(alloc: Global) -> RowGroup {
+    fn empty(alloc: Global) -> RowGroup {
         RowGroup {
             alloc,
             chunks: None,

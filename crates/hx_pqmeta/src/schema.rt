@@ -1,18 +1,18 @@
-ghost use Rattle.std.specs.Prelude.{List};
 ghost use Rattle.std.specs.Option.{option_map};
 ghost use Rattle.hx_pqmeta.specs.Records.{ElementFields};
 ghost use Rattle.hx_pqmeta.specs.Fields.{element_of};
 
-use crate::listing::Fresh;
+use crate::ids::{ELEMENT_CHILDREN, ELEMENT_NAME, ELEMENT_REPETITION, ELEMENT_TYPE};
 use crate::refusal::PqRefusal;
-use crate::sight::see;
-use crate::walking::Kept;
+use crate::structs::{Element, Struct};
+use crate::values::{binary, int32, pass};
+use hx_thrift::kind::{BINARY, I32};
 use hx_thrift::{Field, Reader};
 use std::alloc::Global;
 use std::marker::Model;
 
 /// The fields of the struct SchemaElement.
-#[derive(Drop)]
+#[derive(Default, Drop)]
 pub struct SchemaElement<'a> {
     pub kind: Option<i32>,
     pub repetition: Option<i32>,
@@ -26,31 +26,33 @@ impl<'a> Model for SchemaElement<'a> {
     ghost view = { λ s. record { kind = s.kind; repetition = s.repetition; name = option_map (λ b. b.now) s.name; children = s.children } };
 }
 
-impl<'a> Kept<'a> for SchemaElement<'a> {
-    ghost wants = { ⊥ };
-
+impl<'a> Struct<'a> for SchemaElement<'a> {
     ghost levels = { 29 };
+
+    ghost wants = { ⊥ };
 
     ghost said = { λ es. element_of es };
 
-    fn keep(&mut self, reader: &mut Reader<'a>, field: Field) -> Result<(), PqRefusal> {
-        let sight = see(reader, field, 3)?;
-        self.kind = sight.int32(1).or(self.kind);
-        self.repetition = sight.int32(3).or(self.repetition);
-        self.name = sight.bytes(4).or(self.name);
-        self.children = sight.int32(5).or(self.children);
+    fn read_entry(
+        &mut self,
+        reader: &mut Reader<'a>,
+        field: Field,
+        depth: u32,
+    ) -> Result<(), PqRefusal> {
+        match (field.id, field.kind) {
+            (ELEMENT_TYPE, I32) => self.kind = int32(reader)?,
+            (ELEMENT_REPETITION, I32) => self.repetition = int32(reader)?,
+            (ELEMENT_NAME, BINARY) => self.name = binary(reader)?,
+            (ELEMENT_CHILDREN, I32) => self.children = int32(reader)?,
+            (_, kind) => pass(reader, kind, depth)?,
+        }
         Ok(())
     }
 }
 
-impl<'a> Fresh<'a> for SchemaElement<'a> {
+impl<'a> Element<'a> for SchemaElement<'a> {
     #[tactic(auto, unfolding(crate::specs::Fields::last))]
-    fn fresh(_alloc: Global) -> SchemaElement<'a> {
-        SchemaElement {
-            kind: None,
-            repetition: None,
-            name: None,
-            children: None,
-        }
+    fn empty(_alloc: Global) -> SchemaElement<'a> {
+        SchemaElement::default()
     }
 }
