@@ -5,7 +5,7 @@ use Rattle.std.proofs.lemmas.Bool.{leb-true, ltb-true}
 use Rattle.std.specs.Ordering.{int_eq}
 use Rattle.hx_thrift.specs.declared.refusal.ThriftRefusal.{ThriftRefusal}
 use Rattle.hx_thrift.specs.declared.header.Field.{Field}
-use Rattle.hx_thrift.specs.Texts.{Text, Read, read_as}
+use Rattle.hx_thrift.specs.Texts.{Text, Read, ◌>>=◌, read_as}
 use Rattle.hx_thrift.specs.Kinds.{IsKind}
 use Rattle.hx_thrift.specs.Values.{Entry, Node, Value, entries}
 use Rattle.hx_thrift.specs.Reading.{value_at, struct_at, container_at}
@@ -15,15 +15,21 @@ use Rattle.hx_pqmeta.specs.declared.page.PageHead.{PageHead}
 use Rattle.hx_pqmeta.specs.declared.page.PageHeader.{PageHeader}
 use Rattle.hx_pqmeta.specs.declared.refusal.PqRefusal.{PqRefusal}
 use Rattle.hx_pqmeta.specs.declared.refusal.PqRefusal.TheVariants.{Encoding, Bounds}
-use Rattle.hx_pqmeta.specs.Refusals.{◌>>=◌, placed, needed}
+use Rattle.hx_pqmeta.specs.Refusals.{placed, needed}
+use Rattle.hx_pqmeta.specs.Naturals.{natural}
 use Rattle.hx_pqmeta.specs.Fields.{page_header_of}
-use Rattle.hx_pqmeta.proofs.Entries.{struct_value}
 use Rattle.hx_pqmeta.specs.PageHeaders.{plain_head, with_data_page, page_head_of, page_head_at}
 use Rattle.hx_pqread.specs.declared.layout.Asked.{Asked}
 use Rattle.hx_pqread.specs.declared.layout.Layout.{Layout}
-use Rattle.hx_pqread.specs.Pages.{text_from, body_values, runs_checked, head_checked, are_sizes, natural, bounded, body_at, page_behind, page_at, pages_at}
-use Rattle.hx_pqread.specs.Laws.{IsPage, ArePages}
+use Rattle.hx_pqread.specs.Bodies.{body_values}
+use Rattle.hx_pqread.specs.Pages.{text_from, runs_checked, head_checked, are_sizes, bounded, body_at, page_behind, page_at, pages_at}
+use Rattle.hx_pqread.specs.Laws.{IsPage, ArePages, ReadsABody}
 use Rattle.hx_pqread.proofs.Counts.{body_length}
+
+-- the laws below this one: of Thrift's spelling, and of a body
+pub record Below : Type 0 where
+  pub spelling : ReadsWhatIsSpelled
+  pub body : ReadsABody
 
 both_true : (a b : Bool) → a && b ≡ true → (a ≡ true) × (b ≡ true)
 both_true true b e = (refl, e)
@@ -71,18 +77,17 @@ sizes_are left room (negsuc p) (pos s) (negsuc v) e = absurd cc
 sizes_are left room (negsuc p) (negsuc s) (pos v) e = absurd cc
 sizes_are left room (negsuc p) (negsuc s) (negsuc v) e = absurd cc
 
+fewer : (a b c : ℕ) → a ≡ b → b ≤ c → a ≤ c
+fewer a b c e h = omega arith
+
 sizes_fit : (left room size n : ℕ) → size ≤ room → n ≤ left → are_sizes left room (pos size) (pos size) (pos n) ≡ true
 sizes_fit left room size n a b = grind (arith, nat_tests)
-
-bounded_ok : {A : Type 0} (column : ℕ) (x : Option A) (y : A) → bounded column x ≡ Ok y → x ≡ Some y
-bounded_ok column (Some x) y e = cc
-bounded_ok column None y e = absurd cc
 
 abbrev answer : PageHead → List (Option ℤ) → Result (List (Option ℤ) × ℕ) PqRefusal
 answer head values = Ok (values, head.next + natural head.stored_size)
 
 -- what a body that is read is like
-pub record IsBody (asked : Asked) (left : ℕ) (head : PageHead) (file : List ℕ) (values : List (Option ℤ)) (next : ℕ) : Type 0 where
+pub record IsRead (asked : Asked) (left : ℕ) (head : PageHead) (file : List ℕ) (values : List (Option ℤ)) (next : ℕ) : Type 0 where
   pub size : ℕ
   pub plain_size : head.plain_size ≡ pos size
   pub stored_size : head.stored_size ≡ pos size
@@ -92,52 +97,69 @@ pub record IsBody (asked : Asked) (left : ℕ) (head : PageHead) (file : List �
   pub end : next ≡ head.next + size
   pub few : length values ≤ left
 
-body_sound : (asked : Asked) (left : ℕ) (head : PageHead) (file : List ℕ) (values : List (Option ℤ)) (next : ℕ)
-    → (body_at asked left head file >>= λ body. bounded asked.column (body_values asked.layout (natural head.values) body) >>= answer head) ≡ Ok (values, next)
-    → IsBody asked left head file values next
-unfolding body_at
-body_sound asked left head file values next e =
-    let body = bind_ok (body_at asked left head file) (λ body. bounded asked.column (body_values asked.layout (natural head.values) body) >>= answer head) (values, next) e in
-    let a = accepted (are_sizes left (asked.end - head.next) head.plain_size head.stored_size head.values) (Bounds asked.column) (Ok (take (natural head.stored_size) (drop head.next file))) body.0 body.1 in
-    let s = sizes_are left (asked.end - head.next) head.plain_size head.stored_size head.values a.0 in
-    let bytes : take (natural head.stored_size) (drop head.next file) ≡ body.0 = same (take (natural head.stored_size) (drop head.next file)) body.0 (Ok (take (natural head.stored_size) (drop head.next file))) (Ok body.0) refl refl a.1 in
-    let read = bind_ok (bounded asked.column (body_values asked.layout (natural head.values) body.0)) (answer head) (values, next) body.2 in
-    let whole : (read.0, head.next + natural head.stored_size) ≡ (values, next) = same (read.0, head.next + natural head.stored_size) (values, next) (Ok (read.0, head.next + natural head.stored_size)) (Ok (values, next)) refl refl read.2 in
-    let some : body_values asked.layout (natural head.values) body.0 ≡ Some read.0 = bounded_ok asked.column (body_values asked.layout (natural head.values) body.0) read.0 read.1 in
-    let value_is : read.0 ≡ values = ap (λ (x : List (Option ℤ) × ℕ). x.0) whole in
-    let next_is : head.next + natural head.stored_size ≡ next = ap (λ (x : List (Option ℤ) × ℕ). x.1) whole in
+ok_pair : {A : Type 0} (a x : A) (b y : ℕ) (first second : Result (A × ℕ) PqRefusal) → first ≡ Ok (a, b) → second ≡ Ok (x, y) → first ≡ second → (a ≡ x) × (b ≡ y)
+ok_pair {A = A} a x b y first second p q e =
+    let both : (a, b) ≡ (x, y) = same (a, b) (x, y) first second p q e in
+    (ap (λ (z : A × ℕ). z.0) both, ap (λ (z : A × ℕ). z.1) both)
+
+answer_ok : (column : ℕ) (head : PageHead) (read : Option (List (Option ℤ))) (values : List (Option ℤ)) (next : ℕ) → (bounded column read >>= answer head) ≡ Ok (values, next)
+    → (read ≡ Some values) × (head.next + natural head.stored_size ≡ next)
+answer_ok column head None values next e = absurd cc
+answer_ok column head (Some read) values next e =
+    let both = ok_pair read values (head.next + natural head.stored_size) next (answer head read) (Ok (values, next)) refl refl e in
+    (ap (λ (xs : List (Option ℤ)). Some xs) both.0, both.1)
+
+-- where the sizes fit, what the bytes of a body are read as
+body_is : (asked : Asked) (left : ℕ) (head : PageHead) (file body : List ℕ) (values : List (Option ℤ)) (next : ℕ) → are_sizes left (asked.end - head.next) head.plain_size head.stored_size head.values ≡ true
+    → take (natural head.stored_size) (drop head.next file) ≡ body → body_values asked.layout (natural head.values) body ≡ Some values → head.next + natural head.stored_size ≡ next → IsRead asked left head file values next
+body_is asked left head file body values next fit bytes read end =
+    let s = sizes_are left (asked.end - head.next) head.plain_size head.stored_size head.values fit in
     let stored : natural head.stored_size ≡ s.0 = ap natural s.3 in
     let number : natural head.values ≡ s.1 = ap natural s.4 in
-    let len : length values ≡ s.1 = ap length (sym value_is) ∙ (body_length asked.layout (natural head.values) body.0 read.0 some ∙ number) in
-    let body_is : body_values asked.layout (length values) (take s.0 (drop head.next file)) ≡ Some values =
-    ap (λ (n : ℕ). body_values asked.layout n (take s.0 (drop head.next file))) (len ∙ sym number)
-    ∙ (ap (λ (n : ℕ). body_values asked.layout (natural head.values) (take n (drop head.next file))) (sym stored)
-    ∙ (ap (body_values asked.layout (natural head.values)) bytes ∙ (some ∙ ap (λ (xs : List (Option ℤ)). Some xs) value_is))) in
+    let len : length values ≡ s.1 = body_length asked.layout (natural head.values) body values read ∙ number in
     record {
       size = s.0;
       plain_size = s.2;
       stored_size = s.3;
       count = s.4 ∙ ap pos (sym len);
       fits = s.5;
-      body = body_is;
-      end = sym next_is ∙ ap (λ (n : ℕ). head.next + n) stored;
-      few = omega (arith, len, s.6);
+      body =
+          ap (λ (n : ℕ). body_values asked.layout n (take s.0 (drop head.next file))) (len ∙ sym number)
+          ∙ (ap (λ (n : ℕ). body_values asked.layout (natural head.values) (take n (drop head.next file))) (sym stored)
+          ∙ (ap (body_values asked.layout (natural head.values)) bytes ∙ read));
+      end = sym end ∙ ap (λ (n : ℕ). head.next + n) stored;
+      few = fewer (length values) s.1 left len s.6;
     }
+
+body_sound : (asked : Asked) (left : ℕ) (head : PageHead) (file : List ℕ) (values : List (Option ℤ)) (next : ℕ)
+    → (body_at asked left head file >>= λ body. bounded asked.column (body_values asked.layout (natural head.values) body) >>= answer head) ≡ Ok (values, next)
+    → IsRead asked left head file values next
+unfolding body_at
+body_sound asked left head file values next e =
+    let bytes = take (natural head.stored_size) (drop head.next file) in
+    let body = bind_ok (body_at asked left head file) (λ body. bounded asked.column (body_values asked.layout (natural head.values) body) >>= answer head) (values, next) e in
+    let a = accepted (are_sizes left (asked.end - head.next) head.plain_size head.stored_size head.values) (Bounds asked.column) (Ok bytes) body.0 body.1 in
+    let read = answer_ok asked.column head (body_values asked.layout (natural head.values) body.0) values next body.2 in
+    body_is asked left head file body.0 values next a.0 (same bytes body.0 (Ok bytes) (Ok body.0) refl refl a.1) read.0 read.1
 
 is_struct : IsKind 12
 is_struct = record { least = omega arith; greatest = omega arith }
 
-header_sound : ReadsWhatIsSpelled → (text : Text) (head : PageHead) → page_head_at text ≡ Ok head
+struct_value : (levels : ℕ) (text rest : Text) (es : List (Entry (Value levels))) → struct_at (value_at levels) text ≡ Ok (es, rest) → value_at (suc levels) 12 text ≡ Ok (entries es, rest)
+unfolding value_at container_at
+struct_value levels text rest es read = rw read refl
+
+header_sound : Below → (text : Text) (head : PageHead) → page_head_at text ≡ Ok head
     → (es : List (Entry (Value 31))) × (rest : Text) × Begins 32 12 text (entries es) rest × (page_head_of (page_header_of es) rest.at ≡ Ok head)
 unfolding page_head_at
 header_sound law text head e =
     let header = bind_ok (placed (struct_at (value_at 31) text)) (λ header. page_head_of (page_header_of header.0) header.1.at) head e in
     let read = placed_ok (struct_at (value_at 31) text) header.0 header.1 in
     let value = struct_value 31 text header.0.1 header.0.0 read in
-    (header.0.0, header.0.1, (law 32 12 text (entries header.0.0) header.0.1 is_struct).1 value, header.2)
+    (header.0.0, header.0.1, (law.spelling 32 12 text (entries header.0.0) header.0.1 is_struct).1 value, header.2)
 
 pub page_behind_sound : (asked : Asked) (left : ℕ) (head : PageHead) (file : List ℕ) (values : List (Option ℤ)) (next : ℕ) → page_behind asked left head file ≡ Ok (values, next)
-    → (head_checked asked.column asked.layout head ≡ Ok head) × IsBody asked left head file values next
+    → (head_checked asked.column asked.layout head ≡ Ok head) × IsRead asked left head file values next
 unfolding page_behind
 page_behind_sound asked left head file values next e =
     let rest = λ (head : PageHead). body_at asked left head file >>= λ body. bounded asked.column (body_values asked.layout (natural head.values) body) >>= answer head in
@@ -145,7 +167,7 @@ page_behind_sound asked left head file values next e =
     let is : head ≡ checked.0 = head_same asked.column asked.layout head checked.0 checked.1 in
     (checked.1 ∙ ap (λ (x : PageHead). Ok x) (sym is), body_sound asked left head file values next (ap rest is ∙ checked.2))
 
-pub page_sound : ReadsWhatIsSpelled → (asked : Asked) (left place : ℕ) (file : List ℕ) (values : List (Option ℤ)) (next : ℕ) → page_at asked left place file ≡ Ok (values, next)
+pub page_sound : Below → (asked : Asked) (left place : ℕ) (file : List ℕ) (values : List (Option ℤ)) (next : ℕ) → page_at asked left place file ≡ Ok (values, next)
     → IsPage asked file place values next × (length values ≤ left)
 unfolding page_at
 page_sound law asked left place file values next e =
@@ -170,7 +192,7 @@ page_sound law asked left place file values next e =
         stored_size = body.stored_size;
         count = body.count;
         fits = body.fits;
-        body = body.body;
+        body = (law.body asked.layout (take body.size (drop head.0.next file)) values).1 body.body;
         end = body.end;
       },
       body.few,
@@ -202,13 +224,13 @@ struct_again : (levels : ℕ) (text rest : Text) (es : List (Entry (Value levels
 unfolding value_at container_at
 struct_again levels text rest es e = entries_back (struct_at (value_at levels) text) es rest e
 
-header_complete : ReadsWhatIsSpelled → (text : Text) (es : List (Entry (Value 31))) (rest : Text) (head : PageHead) → Begins 32 12 text (entries es) rest → page_head_of (page_header_of es) rest.at ≡ Ok head → page_head_at text ≡ Ok head
+header_complete : Below → (text : Text) (es : List (Entry (Value 31))) (rest : Text) (head : PageHead) → Begins 32 12 text (entries es) rest → page_head_of (page_header_of es) rest.at ≡ Ok head → page_head_at text ≡ Ok head
 unfolding page_head_at
 header_complete law text es rest head begins read =
-    let value = (law 32 12 text (entries es) rest is_struct).0 begins in
+    let value = (law.spelling 32 12 text (entries es) rest is_struct).0 begins in
     rw (struct_again 31 text rest es value) read
 
-pub page_complete : ReadsWhatIsSpelled → (asked : Asked) (left place : ℕ) (file : List ℕ) (values : List (Option ℤ)) (next : ℕ) → IsPage asked file place values next → length values ≤ left
+pub page_complete : Below → (asked : Asked) (left place : ℕ) (file : List ℕ) (values : List (Option ℤ)) (next : ℕ) → IsPage asked file place values next → length values ≤ left
     → page_at asked left place file ≡ Ok (values, next)
 unfolding page_at page_behind body_at
 page_complete law asked left place file values next p few =
@@ -218,7 +240,8 @@ page_complete law asked left place file values next p few =
     let inside : leb 4 place && ltb place asked.end ≡ true = grind (arith, nat_tests) in
     let head = header_complete law text p.fields p.rest p.head p.header p.read in
     let fit = sizes_fit left (asked.end - p.head.next) p.size (length values) p.fits few in
-    rw (inside, head, p.checked, p.plain_size, p.stored_size, p.count, fit, p.body, p.end) refl
+    let body = (law.body asked.layout (take p.size (drop p.head.next file)) values).0 p.body in
+    rw (inside, head, p.checked, p.plain_size, p.stored_size, p.count, fit, body, p.end) refl
 
 -- ---- a page has a header, so the next one stands further on
 
@@ -281,7 +304,7 @@ none_left : (values : List (Option ℤ)) → length values ≡ 0 → [] ≡ valu
 none_left [] e = refl
 none_left (value ∷ values) e = absurd (omega arith)
 
-pub pages_sound : ReadsWhatIsSpelled → (asked : Asked) (most left place : ℕ) (file : List ℕ) (values : List (Option ℤ)) → pages_at asked most left place file ≡ Ok values
+pub pages_sound : Below → (asked : Asked) (most left place : ℕ) (file : List ℕ) (values : List (Option ℤ)) → pages_at asked most left place file ≡ Ok values
     → (places : List ℕ) × ArePages asked file place places values × (length values ≡ left) × (left ≡ 0 → places ≡ [])
 unfolding pages_at
 pages_sound law asked zero zero place file values e =
@@ -297,9 +320,9 @@ pages_sound law asked (suc most) (suc left) place file values e =
     let whole : page.0.0 ++ more.0 ≡ values = same (page.0.0 ++ more.0) values (Ok (page.0.0 ++ more.0)) (Ok values) refl refl more.2 in
     let first = page_sound law asked (suc left) place file page.0.0 page.0.1 page.1 in
     let others = pages_sound law asked most (suc left - length page.0.0) page.0.1 file more.0 more.1 in
-    (place ∷ others.0, (page.0.0, page.0.1, more.0, refl, first.0, others.1, sym whole), ap length (sym whole) ∙ (length-append page.0.0 more.0 ∙ omega (arith, first.1, others.2)), λ e. absurd (omega arith))
+    (place ∷ others.0, (page.0.0, page.0.1, more.0, refl, first.0, others.1, sym whole), ap length (sym whole) ∙ (length-append page.0.0 more.0 ∙ omega (arith, first.1, others.2)), λ e. absurd {A = place ∷ others.0 ≡ []} (omega arith))
 
-pub pages_complete : ReadsWhatIsSpelled → (asked : Asked) (places : List ℕ) (most left place : ℕ) (file : List ℕ) (values : List (Option ℤ)) → ArePages asked file place places values → length values ≡ left → asked.end ≤ place + most
+pub pages_complete : Below → (asked : Asked) (places : List ℕ) (most left place : ℕ) (file : List ℕ) (values : List (Option ℤ)) → ArePages asked file place places values → length values ≡ left → asked.end ≤ place + most
     → pages_at asked most left place file ≡ Ok values
 unfolding pages_at
 pages_complete law asked places zero zero place file values h len fuel = ap (λ (xs : List (Option ℤ)). Ok xs) (none_left values len)

@@ -1,66 +1,72 @@
 -- A body that is read has as many values as are asked for.
-use Rattle.std.proofs.Common.{◌≡◌, ℕ, ℤ, zero, suc, ◌+◌, ◌-◌, ◌*◌, List, [], ◌∷◌, ◌++◌, length, take, drop, ◌&&◌, Bool, true, false, cond, eqb, leb, Option, Some, None, refl, sym, ap, ◌∙◌, arith, length-append}
-use Rattle.std.specs.Int.{Width}
+use Rattle.std.proofs.Common.{◌≡◌, ℕ, ℤ, zero, suc, ◌+◌, ◌-◌, ◌*◌, List, [], ◌++◌, length, take, drop, replicate, ◌&&◌, Bool, true, false, cond, eqb, leb, Option, Some, None, refl, sym, ap, ◌∙◌, arith, length-append}
+use Rattle.std.proofs.lemmas.Bool.{eqb-true}
+use Rattle.std.proofs.lemmas.List.{length-take, length-replicate}
+use Rattle.std.specs.Option.{option_map}
 use Rattle.hx_pqread.specs.declared.layout.Layout.{Layout}
-use Rattle.hx_pqread.specs.Levels.{◌>>=◌, run_at, levels_at}
-use Rattle.hx_pqread.specs.Numbers.{width, size, number, plain, spread, given}
-use Rattle.hx_pqread.specs.Pages.{required_body, spread_body, levels_len, optional_body, body_values}
-use Rattle.hx_pqread.proofs.Runs.{bind_some, kept, run_length}
+use Rattle.hx_pqread.specs.Levels.{◌>>=◌, run_at, levels_at, levels_in, given}
+use Rattle.hx_pqread.specs.Numbers.{size, numbers_at}
+use Rattle.hx_pqread.specs.Values.{spread}
+use Rattle.hx_pqread.specs.Bodies.{levels_len, optional_parts, body_parts, spread_at, body_values}
+use Rattle.hx_pqread.proofs.Spreading.{length_spread}
 
-length_plain : (w : Width) (n : ℕ) (bytes : List ℕ) → length (plain w n bytes) ≡ n
-unfolding plain
-length_plain w zero bytes = refl
-length_plain w (suc n) bytes = length-append (plain w n bytes) (Some (number w n bytes) ∷ []) ∙ rw (length_plain w n bytes) (omega arith)
+-- where a chain has a value, each part has one
+pub bind_some : {A B : Type 0} (read : Option A) (next : A → Option B) (y : B) → (read >>= next) ≡ Some y → (x : A) × (read ≡ Some x) × (next x ≡ Some y)
+bind_some (Some x) next y e = (x, refl, e)
+bind_some None next y e = absurd cc
 
-one_of : (b : Bool) (x y : Option ℤ) (xs ys : List (Option ℤ)) (n : ℕ) → length xs ≡ n → length ys ≡ n → length (cond b (x ∷ xs) (y ∷ ys)) ≡ suc n
-one_of true x y xs ys n a b = ap suc a
-one_of false x y xs ys n a b = ap suc b
+pub kept : {A : Type 0} (b : Bool) (x y : A) → cond b (Some x) None ≡ Some y → (b ≡ true) × (x ≡ y)
+kept true x y e = (refl, cc)
+kept false x y e = absurd cc
 
-length_spread : (w : Width) (index : ℕ) (levels bytes : List ℕ) → length (spread w index levels bytes) ≡ length levels
-length_spread w index [] bytes = refl
-length_spread w index (level ∷ levels) bytes =
-    one_of (eqb level 1) (Some (number w index bytes)) None (spread w (index + 1) levels bytes) (spread w index levels bytes) (length levels) (length_spread w (index + 1) levels bytes) (length_spread w index levels bytes)
-
-some_same : {A : Type 0} (x y : A) (first second : Option A) → first ≡ Some x → second ≡ Some y → first ≡ second → x ≡ y
-some_same x y first second a b e = cc
-
-length_levels : (runs wanted : ℕ) (bytes levels : List ℕ) → levels_at runs wanted bytes ≡ Some levels → length levels ≡ wanted
-unfolding levels_at
-length_levels zero zero bytes levels e = ap length (sym (some_same [] levels (Some []) (Some levels) refl refl e))
-length_levels (suc runs) zero bytes levels e = ap length (sym (some_same [] levels (Some []) (Some levels) refl refl e))
-length_levels zero (suc wanted) bytes levels e = absurd cc
-length_levels (suc runs) (suc wanted) bytes levels e =
-    let run = bind_some (run_at (suc wanted) bytes) (λ run. levels_at runs (suc wanted - length run.0) run.1 >>= λ more. Some (run.0 ++ more)) levels e in
-    let more = bind_some (levels_at runs (suc wanted - length run.0.0) run.0.1) (λ more. Some (run.0.0 ++ more)) levels run.2 in
-    let short = run_length (suc wanted) bytes run.0.0 run.0.1 run.1 in
-    let others = length_levels runs (suc wanted - length run.0.0) run.0.1 more.0 more.1 in
-    let whole = ap length (sym (some_same (run.0.0 ++ more.0) levels (Some (run.0.0 ++ more.0)) (Some levels) refl refl more.2)) in
-    whole ∙ (length-append run.0.0 more.0 ∙ omega (arith, short, others))
-
-required_length : (is_wide : Bool) (count : ℕ) (body : List ℕ) (values : List (Option ℤ)) → required_body is_wide count body ≡ Some values → length values ≡ count
-unfolding required_body
-required_length is_wide count body values e = ap length (sym (kept (eqb (length body) (count * size is_wide)) (plain (width is_wide) count body) values e)) ∙ length_plain (width is_wide) count body
-
-spread_length : (is_wide : Bool) (found : Option (List ℕ)) (count : ℕ) (numbers : List ℕ) (values : List (Option ℤ)) → ((levels : List ℕ) → found ≡ Some levels → length levels ≡ count)
-    → spread_body is_wide found numbers ≡ Some values → length values ≡ count
-unfolding spread_body
-spread_length is_wide None count numbers values so e = absurd cc
-spread_length is_wide (Some levels) count numbers values so e =
-    ap length (sym (kept (eqb (length numbers) (given levels * size is_wide)) (spread (width is_wide) 0 levels numbers) values e)) ∙ (length_spread (width is_wide) 0 levels numbers ∙ so levels refl)
-
-taken : {A : Type 0} (b : Bool) (x : Option A) (y : A) → cond b x None ≡ Some y → x ≡ Some y
-taken true x y e = e
+pub taken : {A : Type 0} (b : Bool) (x : Option A) (y : A) → cond b x None ≡ Some y → (b ≡ true) × (x ≡ Some y)
+taken true x y e = (refl, e)
 taken false x y e = absurd cc
 
-optional_length : (is_wide : Bool) (count : ℕ) (body : List ℕ) (values : List (Option ℤ)) → optional_body is_wide count body ≡ Some values → length values ≡ count
-unfolding optional_body
-optional_length is_wide count body values e =
-    let levels = levels_at (levels_len body) count (take (levels_len body) (drop 4 body)) in
-    spread_length is_wide levels count (drop (4 + levels_len body) body) values (length_levels (levels_len body) count (take (levels_len body) (drop 4 body)))
-    (taken (leb 4 (length body) && leb (4 + levels_len body) (length body)) (spread_body is_wide levels (drop (4 + levels_len body) body)) values e)
+pub mapped : {A B : Type 0} (f : A → B) (read : Option A) (y : B) → option_map f read ≡ Some y → (x : A) × (read ≡ Some x) × (f x ≡ y)
+mapped f (Some x) y e = (x, refl, cc)
+mapped f None y e = absurd cc
+
+pub some_same : {A : Type 0} (x y : A) → Some x ≡ Some y → x ≡ y
+some_same x y e = cc
+
+pub length_levels : (runs wanted : ℕ) (bytes levels : List ℕ) → levels_at runs wanted bytes ≡ Some levels → length levels ≡ wanted
+unfolding levels_at
+length_levels zero zero bytes levels e = ap length (sym (some_same [] levels e))
+length_levels (suc runs) zero bytes levels e = ap length (sym (some_same [] levels e))
+length_levels zero (suc wanted) bytes levels e = absurd cc
+length_levels (suc runs) (suc wanted) bytes levels e =
+    let run = bind_some (run_at bytes) (λ run. levels_at runs (suc wanted - length run.0) run.1 >>= λ more. Some (take (suc wanted) run.0 ++ more)) levels e in
+    let more = bind_some (levels_at runs (suc wanted - length run.0.0) run.0.1) (λ more. Some (take (suc wanted) run.0.0 ++ more)) levels run.2 in
+    let others = length_levels runs (suc wanted - length run.0.0) run.0.1 more.0 more.1 in
+    let whole = ap length (sym (some_same (take (suc wanted) run.0.0 ++ more.0) levels more.2)) in
+    whole ∙ (length-append (take (suc wanted) run.0.0) more.0 ∙ omega (arith, length-take (suc wanted) run.0.0, others))
+
+optional_length : (count : ℕ) (body : List ℕ) (parts : List ℕ × List ℕ) → optional_parts count body ≡ Some parts → length parts.0 ≡ count
+unfolding optional_parts
+optional_length count body parts e =
+    let runs = take (levels_len body) (drop 4 body) in
+    let inside = taken (leb 4 (length body) && leb (4 + levels_len body) (length body)) (option_map (λ levels. (levels, drop (4 + levels_len body) body)) (levels_in count runs)) parts e in
+    let levels = mapped (λ levels. (levels, drop (4 + levels_len body) body)) (levels_in count runs) parts inside.1 in
+    ap (λ (x : List ℕ × List ℕ). length x.0) (sym levels.2) ∙ length_levels (length runs) count runs levels.0 levels.1
+
+parts_length : (is_optional : Bool) (count : ℕ) (body : List ℕ) (parts : List ℕ × List ℕ) → body_parts is_optional count body ≡ Some parts → length parts.0 ≡ count
+parts_length true count body parts e = optional_length count body parts e
+parts_length false count body parts e = ap (λ (x : List ℕ × List ℕ). length x.0) (sym (some_same (replicate count 1, body) parts e)) ∙ length-replicate {A = ℕ} count 1
+
+-- what is read of a body: its levels, and the numbers behind them
+pub body_read : (layout : Layout) (count : ℕ) (body : List ℕ) (values : List (Option ℤ)) → body_values layout count body ≡ Some values
+    → (levels : List ℕ) × (bytes : List ℕ) × (body_parts layout.is_optional count body ≡ Some (levels, bytes)) × (length bytes ≡ given levels * size layout.is_wide)
+    × (spread levels (numbers_at layout.is_wide (given levels) bytes) ≡ values)
+unfolding body_values spread_at
+body_read layout count body values e =
+    let parts = bind_some (body_parts layout.is_optional count body) (λ parts. spread_at layout.is_wide parts.0 parts.1) values e in
+    let levels = parts.0.0 in
+    let bytes = parts.0.1 in
+    let fits = kept (eqb (length bytes) (given levels * size layout.is_wide)) (spread levels (numbers_at layout.is_wide (given levels) bytes)) values parts.2 in
+    (levels, bytes, parts.1, eqb-true (length bytes) (given levels * size layout.is_wide) fits.0, fits.1)
 
 pub body_length : (layout : Layout) (count : ℕ) (body : List ℕ) (values : List (Option ℤ)) → body_values layout count body ≡ Some values → length values ≡ count
-body_length layout count body values e = by_kind layout.is_optional e where
-  by_kind : (is_optional : Bool) → cond is_optional (optional_body layout.is_wide count body) (required_body layout.is_wide count body) ≡ Some values → length values ≡ count
-  by_kind true e = optional_length layout.is_wide count body values e
-  by_kind false e = required_length layout.is_wide count body values e
+body_length layout count body values e =
+    let b = body_read layout count body values e in
+    ap length (sym b.4) ∙ (length_spread b.0 (numbers_at layout.is_wide (given b.0) b.1) ∙ parts_length layout.is_optional count body (b.0, b.1) b.2)

@@ -1,12 +1,15 @@
 -- Values of pages, one page after another.
-use Rattle.std.proofs.Common.{◌≡◌, ◌⊎◌, inl, inr, ℕ, zero, suc, ◌+◌, ◌-◌, ◌<◌, ℤ, List, [], ◌∷◌, ◌++◌, length, map, Option, Some, None, Result, Ok, Err, refl, sym, ap, ◌∙◌, append_assoc, arith}
-use Rattle.std.proofs.lemmas.List.{append-nil, map-append}
+use Rattle.std.proofs.Common.{◌≡◌, ◌⊎◌, inl, inr, ℕ, zero, suc, ◌+◌, ◌-◌, ◌<◌, ◌≤◌, ℤ, List, [], ◌∷◌, ◌++◌, length, map, drop, Option, Some, None, Result, Ok, Err, refl, sym, ap, ◌∙◌, append_assoc, arith}
+use Rattle.std.proofs.lemmas.List.{append-nil, map-append, drop_all}
 use Rattle.hx_pqmeta.specs.declared.refusal.PqRefusal.{PqRefusal}
 use Rattle.hx_pqmeta.specs.declared.refusal.PqRefusal.TheVariants.{Memory, Bounds}
-use Rattle.hx_pqmeta.specs.Refusals.{◌>>=◌, each}
+use Rattle.hx_thrift.specs.Texts.{◌>>=◌}
+use Rattle.hx_pqmeta.specs.Refusals.{each}
 use Rattle.hx_pqread.specs.declared.layout.Asked.{Asked}
+use Rattle.hx_pqread.specs.declared.chunk.Span.{Span}
 use Rattle.hx_pqread.specs.Pages.{page_at, pages_at}
-use Rattle.hx_pqread.specs.Columns.{column_at, columns_at, first_absent, lesser, least_absent, present}
+use Rattle.hx_pqread.specs.Values.{present, first_absent}
+use Rattle.hx_pqread.specs.Columns.{spans_at, column_at, columns_at, lesser, least_absent}
 use Rattle.hx_pqmeta.specs.Records.{FooterRecord}
 
 -- the values so far, and those still to come
@@ -49,6 +52,10 @@ too_few_pages asked most zero place file front k some = absurd (omega arith)
 too_few_pages asked zero (suc left) place file front k some = refl
 too_few_pages asked (suc most) (suc left) place file front k some = absurd (omega arith)
 
+pub next_span : (asked : Asked) (span : Span) (spans : List Span) (file : List ℕ) (front values : List (Option ℤ)) → pages_at asked asked.end span.count span.place file ≡ Ok values
+    → with_values front (spans_at asked (span ∷ spans) file) ≡ with_values (front ++ values) (spans_at asked spans file)
+next_span asked span spans file front values e = rw e (over front values (spans_at asked spans file))
+
 -- a refusal of a part is that of all
 pub refused : {X Y : Type 0} (refusal : PqRefusal) (part : Result X PqRefusal) (all : Result Y PqRefusal) → (refusal ≡ Memory) ⊎ (part ≡ Err refusal) → (part ≡ Err refusal → all ≡ Err refusal) → (refusal ≡ Memory) ⊎ (all ≡ Err refusal)
 refused refusal part all (inl want) passes = inl want
@@ -82,6 +89,9 @@ each_stop check front x xs refusal is = rw is refl
 
 pub each_end : {A B : Type 0} (check : A → Result B PqRefusal) (front : List B) → each_from check front [] ≡ Ok front
 each_end {B = B} check front = ap (λ (ys : List B). Ok ys) (append-nil front)
+
+pub each_done : {A B : Type 0} (check : A → Result B PqRefusal) (front : List B) (xs : List A) (i : ℕ) → length xs ≤ i → each_from check front (drop i xs) ≡ Ok front
+each_done check front xs i past = rw (drop_all i xs past) (each_end check front)
 
 -- ---- the columns of names
 

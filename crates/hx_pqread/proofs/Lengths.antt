@@ -6,19 +6,22 @@ use Rattle.hx_pqmeta.specs.declared.chunk.Chunk.{Chunk}
 use Rattle.hx_pqmeta.specs.declared.refusal.PqRefusal.{PqRefusal}
 use Rattle.hx_pqmeta.specs.declared.refusal.PqRefusal.TheVariants.{Codec, Encoding, Bounds}
 use Rattle.hx_pqmeta.specs.Records.{GroupRecord, FooterRecord}
-use Rattle.hx_pqmeta.specs.Refusals.{◌>>=◌, needed, each, AnswersOrWants}
-use Rattle.hx_pqmeta.specs.Footers.{is_above_zero, footer_in}
+use Rattle.hx_thrift.specs.Texts.{◌>>=◌}
+use Rattle.hx_pqmeta.specs.Refusals.{needed, each, AnswersOrWants}
+use Rattle.hx_pqmeta.specs.Naturals.{natural}
+use Rattle.hx_pqmeta.specs.Footers.{is_above_zero, rows_of, footer_in}
 use Rattle.hx_pqmeta.specs.PageHeaders.{page_head_at}
 use Rattle.hx_pqread.specs.declared.layout.Asked.{Asked}
 use Rattle.hx_pqread.specs.declared.layout.Layout.{Layout}
 use Rattle.hx_pqread.specs.declared.chunk.Span.{Span}
-use Rattle.hx_pqread.specs.Pages.{text_from, natural, bounded, page_behind, page_at, pages_at}
-use Rattle.hx_pqread.specs.Columns.{places_of, only, layout_of, span_with, meta_checked, chunk_span, group_span, spans_at, column_at, columns_at, first_absent, least_absent, present, unless_absent, columns_in, HaveRows}
-use Rattle.hx_pqread.specs.Laws.{all_there}
+use Rattle.hx_pqread.specs.Pages.{text_from, bounded, page_behind, page_at, pages_at}
+use Rattle.hx_pqread.specs.Values.{present, first_absent}
+use Rattle.hx_pqread.specs.Columns.{places_of, only, layout_of, span_with, meta_checked, chunk_span, group_span, spans_at, values_of, column_at, columns_at, least_absent, unless_absent, columns_in, HaveRows}
 use Rattle.hx_pqread.proofs.Chains.{bind_ok, accepted, same, page_behind_sound}
+use Rattle.hx_pqread.proofs.Spreading.{length_there}
 use Rattle.hx_pqread.proofs.Whole.{lesser_none, there, kept_all}
 
-page_few : (asked : Asked) (left place : ℕ) (file : List ℕ) (values : List (Option ℤ)) (next : ℕ) → page_at asked left place file ≡ Ok (values, next) → length values ≤ left
+pub page_few : (asked : Asked) (left place : ℕ) (file : List ℕ) (values : List (Option ℤ)) (next : ℕ) → page_at asked left place file ≡ Ok (values, next) → length values ≤ left
 unfolding page_at
 page_few asked left place file values next e =
     let text = text_from asked.end place file in
@@ -26,7 +29,7 @@ page_few asked left place file values next e =
     let head = bind_ok (page_head_at text) (λ head. page_behind asked left head file) (values, next) a.1 in
     (page_behind_sound asked left head.0 file values next head.2).1.few
 
-pages_length : (asked : Asked) (most left place : ℕ) (file : List ℕ) (values : List (Option ℤ)) → pages_at asked most left place file ≡ Ok values → length values ≡ left
+pub pages_length : (asked : Asked) (most left place : ℕ) (file : List ℕ) (values : List (Option ℤ)) → pages_at asked most left place file ≡ Ok values → length values ≡ left
 unfolding pages_at
 pages_length asked zero zero place file values e = ap length (sym (same [] values (Ok []) (Ok values) refl refl e))
 pages_length asked (suc most) zero place file values e = ap length (sym (same [] values (Ok []) (Ok values) refl refl e))
@@ -39,15 +42,7 @@ pages_length asked (suc most) (suc left) place file values e =
     let others = pages_length asked most (suc left - length page.0.0) page.0.1 file more.0 more.1 in
     ap length (sym whole) ∙ (length-append page.0.0 more.0 ∙ omega (arith, few, others))
 
-abbrev counts_of : List Span → ℕ
-counts_of [] = 0
-counts_of (span ∷ spans) = span.count + counts_of spans
-
-abbrev pub rows_of : List GroupRecord → ℕ
-rows_of [] = 0
-rows_of (group ∷ groups) = natural group.rows + rows_of groups
-
-spans_length : (asked : Asked) (spans : List Span) (file : List ℕ) (values : List (Option ℤ)) → spans_at asked spans file ≡ Ok values → length values ≡ counts_of spans
+spans_length : (asked : Asked) (spans : List Span) (file : List ℕ) (values : List (Option ℤ)) → spans_at asked spans file ≡ Ok values → length values ≡ values_of spans
 spans_length asked [] file values e = ap length (sym (same [] values (Ok []) (Ok values) refl refl e))
 spans_length asked (span ∷ spans) file values e =
     let front = bind_ok (pages_at asked asked.end span.count span.place file) (λ front. spans_at asked spans file >>= λ more. Ok (front ++ more)) values e in
@@ -88,15 +83,15 @@ group_rows column place group span e =
     let chunk = bind_ok (bounded column (slice_get group.chunks place)) (λ chunk. chunk_span column group.rows chunk) span e in
     chunk_rows column group.rows chunk.0 span chunk.2
 
-groups_rows : (column place : ℕ) (groups : List GroupRecord) (spans : List Span) → each (group_span column place) groups ≡ Ok spans → counts_of spans ≡ rows_of groups
-groups_rows column place [] spans e = ap counts_of (sym (same [] spans (Ok []) (Ok spans) refl refl e))
+pub groups_rows : (column place : ℕ) (groups : List GroupRecord) (spans : List Span) → each (group_span column place) groups ≡ Ok spans → values_of spans ≡ rows_of groups
+groups_rows column place [] spans e = ap values_of (sym (same [] spans (Ok []) (Ok spans) refl refl e))
 groups_rows column place (group ∷ groups) spans e =
     let span = bind_ok (group_span column place group) (λ span. each (group_span column place) groups >>= λ others. Ok (span ∷ others)) spans e in
     let others = bind_ok (each (group_span column place) groups) (λ others. Ok (span.0 ∷ others)) spans span.2 in
     let whole : span.0 ∷ others.0 ≡ spans = same (span.0 ∷ others.0) spans (Ok (span.0 ∷ others.0)) (Ok spans) refl refl others.2 in
     let first = group_rows column place group span.0 span.1 in
     let rest = groups_rows column place groups others.0 others.1 in
-    ap counts_of (sym whole) ∙ omega (arith, first, rest)
+    ap values_of (sym whole) ∙ omega (arith, first, rest)
 
 abbrev asked_as : ℕ → Layout → ℕ → Asked
 asked_as column layout end = record { column = column; layout = layout; end = end }
@@ -115,10 +110,6 @@ column_length footer file column name values e =
 abbrev AllRows : ℕ → List (List ℤ) → Type 0
 AllRows rows [] = Unit {0}
 AllRows rows (list ∷ lists) = (length list ≡ rows) × AllRows rows lists
-
-length_there : (numbers : List ℤ) → length (all_there numbers) ≡ length numbers
-length_there [] = refl
-length_there (n ∷ numbers) = ap suc (length_there numbers)
 
 columns_lengths : (footer : FooterRecord) (file : List ℕ) (column : ℕ) (names : List (List ℕ)) (columns : List (List (Option ℤ))) → columns_at footer file column names ≡ Ok columns → least_absent columns ≡ None
     → (length (map present columns) ≡ length names) × AllRows (rows_of footer.groups) (map present columns)

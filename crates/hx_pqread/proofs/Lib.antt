@@ -1,8 +1,11 @@
-mod Bodies
+mod Bodied
 mod Chains
 mod Counts
-mod Heads
+mod Gathering
 mod Joins
 mod Lengths
-mod Runs
+mod Numbered
+mod Saying
+mod Spreading
+mod Standing
 mod Whole

@@ -1,21 +1,22 @@
 -- Reading columns, and columns that a file has, are one.
 use Rattle.std.proofs.Common.{◌≡◌, ℕ, ℤ, ◌+◌, List, [], ◌∷◌, ◌++◌, map, slice_get, Option, Some, None, Result, Ok, Err, refl, sym, ap, subst, ◌∙◌, arith}
-use Rattle.hx_thrift.specs.Spelling.{ReadsWhatIsSpelled}
 use Rattle.hx_pqmeta.specs.declared.refusal.PqRefusal.{PqRefusal}
 use Rattle.hx_pqmeta.specs.Records.{FooterRecord}
-use Rattle.hx_pqmeta.specs.Refusals.{◌>>=◌, each}
+use Rattle.hx_thrift.specs.Texts.{◌>>=◌}
+use Rattle.hx_pqmeta.specs.Refusals.{each}
 use Rattle.hx_pqmeta.specs.Footers.{footer_in}
 use Rattle.hx_pqread.specs.declared.layout.Asked.{Asked}
 use Rattle.hx_pqread.specs.declared.layout.Layout.{Layout}
 use Rattle.hx_pqread.specs.declared.chunk.Span.{Span}
 use Rattle.hx_pqread.specs.Pages.{pages_at}
-use Rattle.hx_pqread.specs.Columns.{places_of, only, layout_of, group_span, spans_at, column_at, columns_at, first_absent, lesser, least_absent, present, unless_absent, columns_in}
-use Rattle.hx_pqread.specs.Laws.{AreSpans, IsColumn, all_there, AreColumns, HasColumns, refusal_of}
-use Rattle.hx_pqread.proofs.Chains.{bind_ok, same, pages_sound, pages_complete}
+use Rattle.hx_pqread.specs.Values.{present, first_absent, all_there}
+use Rattle.hx_pqread.specs.Columns.{places_of, only, layout_of, group_span, spans_at, column_at, columns_at, lesser, least_absent, unless_absent, columns_in}
+use Rattle.hx_pqread.specs.Laws.{AreSpans, IsColumn, AreColumns, HasColumns, refusal_of}
+use Rattle.hx_pqread.proofs.Chains.{Below, bind_ok, same, pages_sound, pages_complete}
 
 -- ---- spans
 
-spans_sound : ReadsWhatIsSpelled → (asked : Asked) (spans : List Span) (file : List ℕ) (values : List (Option ℤ)) → spans_at asked spans file ≡ Ok values → AreSpans asked file spans values
+spans_sound : Below → (asked : Asked) (spans : List Span) (file : List ℕ) (values : List (Option ℤ)) → spans_at asked spans file ≡ Ok values → AreSpans asked file spans values
 spans_sound law asked [] file values e = sym (same [] values (Ok []) (Ok values) refl refl e)
 spans_sound law asked (span ∷ spans) file values e =
     let front = bind_ok (pages_at asked asked.end span.count span.place file) (λ front. spans_at asked spans file >>= λ more. Ok (front ++ more)) values e in
@@ -23,7 +24,7 @@ spans_sound law asked (span ∷ spans) file values e =
     let pages = pages_sound law asked asked.end span.count span.place file front.0 front.1 in
     (front.0, more.0, record { places = pages.0; pages = pages.1; count = pages.2; none = pages.3 }, spans_sound law asked spans file more.0 more.1, sym (same (front.0 ++ more.0) values (Ok (front.0 ++ more.0)) (Ok values) refl refl more.2))
 
-spans_complete : ReadsWhatIsSpelled → (asked : Asked) (spans : List Span) (file : List ℕ) (values : List (Option ℤ)) → AreSpans asked file spans values → spans_at asked spans file ≡ Ok values
+spans_complete : Below → (asked : Asked) (spans : List Span) (file : List ℕ) (values : List (Option ℤ)) → AreSpans asked file spans values → spans_at asked spans file ≡ Ok values
 spans_complete law asked [] file values h = ap (λ (xs : List (Option ℤ)). Ok xs) (sym h)
 spans_complete law asked (span ∷ spans) file values h =
     let pages = pages_complete law asked h.2.places asked.end span.count span.place file h.0 h.2.pages h.2.count (omega arith) in
@@ -39,7 +40,7 @@ only_ok column (first ∷ other ∷ places) place e = absurd cc
 abbrev asked_of : FooterRecord → ℕ → Layout → Asked
 asked_of footer column layout = record { column = column; layout = layout; end = footer.start }
 
-pub column_sound : ReadsWhatIsSpelled → (footer : FooterRecord) (file : List ℕ) (column : ℕ) (name : List ℕ) (values : List (Option ℤ)) → column_at footer file column name ≡ Ok values → IsColumn footer file column name values
+pub column_sound : Below → (footer : FooterRecord) (file : List ℕ) (column : ℕ) (name : List ℕ) (values : List (Option ℤ)) → column_at footer file column name ≡ Ok values → IsColumn footer file column name values
 unfolding column_at
 column_sound law footer file column name values e =
     let place = bind_ok (only column (places_of name 0 footer.leaves)) (λ place. layout_of column (slice_get footer.leaves place) >>= λ layout. each (group_span column place) footer.groups >>= λ spans. spans_at (asked_of footer column layout) spans file) values e in
@@ -55,7 +56,7 @@ column_sound law footer file column name values e =
       pages = spans_sound law (asked_of footer column layout.0) spans.0 file values spans.2;
     }
 
-pub column_complete : ReadsWhatIsSpelled → (footer : FooterRecord) (file : List ℕ) (column : ℕ) (name : List ℕ) (values : List (Option ℤ)) → IsColumn footer file column name values → column_at footer file column name ≡ Ok values
+pub column_complete : Below → (footer : FooterRecord) (file : List ℕ) (column : ℕ) (name : List ℕ) (values : List (Option ℤ)) → IsColumn footer file column name values → column_at footer file column name ≡ Ok values
 unfolding column_at
 column_complete law footer file column name values p =
     rw (p.leaf, p.kind, p.chunks) (spans_complete law (asked_of footer column p.layout) p.spans file values p.pages)
@@ -90,7 +91,7 @@ all_again (numbers ∷ lists) = rw (present_again numbers, all_again lists) refl
 
 -- ---- the columns of names
 
-columns_sound : ReadsWhatIsSpelled → (footer : FooterRecord) (file : List ℕ) (column : ℕ) (names : List (List ℕ)) (columns : List (List (Option ℤ))) → columns_at footer file column names ≡ Ok columns → least_absent columns ≡ None
+columns_sound : Below → (footer : FooterRecord) (file : List ℕ) (column : ℕ) (names : List (List ℕ)) (columns : List (List (Option ℤ))) → columns_at footer file column names ≡ Ok columns → least_absent columns ≡ None
     → AreColumns footer file column names (map present columns)
 columns_sound law footer file column [] [] e none = tt
 columns_sound law footer file column [] (values ∷ columns) e none = absurd cc
@@ -104,7 +105,7 @@ columns_sound law footer file column (name ∷ names) columns e none =
     subst (λ (columns : List (List (Option ℤ))). AreColumns footer file column (name ∷ names) (map present columns)) whole
     (subst (λ (values : List (Option ℤ)). IsColumn footer file column name values) (sym (there 1 values.0 absent.0)) first, others)
 
-columns_complete : ReadsWhatIsSpelled → (footer : FooterRecord) (file : List ℕ) (column : ℕ) (names : List (List ℕ)) (lists : List (List ℤ)) → AreColumns footer file column names lists
+columns_complete : Below → (footer : FooterRecord) (file : List ℕ) (column : ℕ) (names : List (List ℕ)) (lists : List (List ℤ)) → AreColumns footer file column names lists
     → columns_at footer file column names ≡ Ok (map all_there lists)
 columns_complete law footer file column [] [] h = refl
 columns_complete law footer file column [] (numbers ∷ lists) h = absurd h
@@ -116,7 +117,7 @@ pub kept_all : (absent : Option ℕ) (lists read : List (List ℤ)) → unless_a
 kept_all None lists read e = (refl, same lists read (Ok lists) (Ok read) refl refl e)
 kept_all (Some row) lists read e = absurd cc
 
-pub whole_sound : ReadsWhatIsSpelled → (file : List ℕ) (names : List (List ℕ)) (lists : List (List ℤ)) → columns_in file names ≡ Ok lists → HasColumns file names lists
+pub whole_sound : Below → (file : List ℕ) (names : List (List ℕ)) (lists : List (List ℤ)) → columns_in file names ≡ Ok lists → HasColumns file names lists
 unfolding columns_in
 whole_sound law file names lists e =
     let footer = bind_ok (footer_in file) (λ footer. columns_at footer file 0 names >>= λ columns. unless_absent (least_absent columns) (map present columns)) lists e in
@@ -128,11 +129,11 @@ whole_sound law file names lists e =
       columns = subst (λ (lists : List (List ℤ)). AreColumns footer.0 file 0 names lists) kept.1 (columns_sound law footer.0 file 0 names columns.0 columns.1 kept.0);
     }
 
-pub whole_complete : ReadsWhatIsSpelled → (file : List ℕ) (names : List (List ℕ)) (lists : List (List ℤ)) → HasColumns file names lists → columns_in file names ≡ Ok lists
+pub whole_complete : Below → (file : List ℕ) (names : List (List ℕ)) (lists : List (List ℤ)) → HasColumns file names lists → columns_in file names ≡ Ok lists
 unfolding columns_in
 whole_complete law file names lists p =
     rw (p.footer_is, columns_complete law p.footer file 0 names lists p.columns, least_again lists, all_again lists) refl
 
-pub some_columns : ReadsWhatIsSpelled → (file : List ℕ) (names : List (List ℕ)) (read : Result (List (List ℤ)) PqRefusal) → columns_in file names ≡ read → refusal_of read ≡ None → (lists : List (List ℤ)) × HasColumns file names lists
+pub some_columns : Below → (file : List ℕ) (names : List (List ℕ)) (read : Result (List (List ℤ)) PqRefusal) → columns_in file names ≡ read → refusal_of read ≡ None → (lists : List (List ℤ)) × HasColumns file names lists
 some_columns law file names (Ok lists) is none = (lists, whole_sound law file names lists is)
 some_columns law file names (Err refusal) is none = absurd cc

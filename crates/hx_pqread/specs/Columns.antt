@@ -1,17 +1,21 @@
 -- The columns of a whole file: their values, or the first refusal.
-use Rattle.std.specs.Prelude.{◌≡◌, ◌⊎◌, ℕ, ℤ, pos, ◌+◌, ◌<◌, List, [], ◌∷◌, ◌++◌, length, map, min, Bool, true, false, not, nat_eq, slice_get, slice_index_or, Option, Some, None, Result, Ok, Err, if◌then◌else◌}
+use Rattle.std.specs.Prelude.{◌≡◌, ◌⊎◌, ℕ, ℤ, ◌+◌, ◌<◌, List, [], ◌∷◌, ◌++◌, length, map, min, Bool, true, false, not, nat_eq, slice_get, slice_index_or, Option, Some, None, Result, Ok, Err, if◌then◌else◌}
 use Rattle.std.specs.Cmp.Lexicographic.{pointwise}
 use Rattle.std.specs.Ordering.{int_eq}
 use Rattle.hx_pqmeta.specs.declared.chunk.Chunk.{Chunk}
 use Rattle.hx_pqmeta.specs.declared.refusal.PqRefusal.{PqRefusal}
 use Rattle.hx_pqmeta.specs.declared.refusal.PqRefusal.TheVariants.{Memory, Column, Codec, Encoding, Bounds, Null, Missing}
+use Rattle.hx_pqmeta.specs.Enumerations.{int32_type, int64_type, optional, uncompressed}
 use Rattle.hx_pqmeta.specs.Records.{LeafRecord, GroupRecord, FooterRecord}
-use Rattle.hx_pqmeta.specs.Refusals.{◌>>=◌, needed, each}
+use Rattle.hx_thrift.specs.Texts.{◌>>=◌}
+use Rattle.hx_pqmeta.specs.Refusals.{needed, each}
 use Rattle.hx_pqmeta.specs.Footers.{is_above_zero, footer_in}
+use Rattle.hx_pqmeta.specs.Naturals.{natural}
 use Rattle.hx_pqread.specs.declared.layout.Asked.{Asked}
 use Rattle.hx_pqread.specs.declared.layout.Layout.{Layout}
 use Rattle.hx_pqread.specs.declared.chunk.Span.{Span}
-use Rattle.hx_pqread.specs.Pages.{natural, bounded, pages_at}
+use Rattle.hx_pqread.specs.Values.{present, first_absent}
+use Rattle.hx_pqread.specs.Pages.{bounded, pages_at}
 
 -- ---- the leaf of a name
 
@@ -29,21 +33,21 @@ only column (place ∷ other ∷ places) = Err (Column column)
 -- INT32 is type 1, INT64 type 2; no other type is read
 abbrev pub is_wide_kind : (column : ℕ) → Option ℤ → Result Bool PqRefusal
 is_wide_kind column None = Err (Column column)
-is_wide_kind column (Some kind) = if int_eq kind (pos 1) then Ok false else if int_eq kind (pos 2) then Ok true else Err (Column column)
+is_wide_kind column (Some kind) = if int_eq kind int32_type then Ok false else if int_eq kind int64_type then Ok true else Err (Column column)
 
 -- how the values of a leaf stand: repetition 1 is OPTIONAL
 unfoldable pub layout_of : (column : ℕ) → Option LeafRecord → Result Layout PqRefusal
 layout_of column None = Err (Column column)
 layout_of column (Some leaf) = do
   is_wide ← is_wide_kind column leaf.kind
-  Ok (record { is_wide = is_wide; is_optional = int_eq leaf.repetition (pos 1) })
+  Ok (record { is_wide = is_wide; is_optional = int_eq leaf.repetition optional })
 
 -- ---- the chunks of a leaf
 
 -- Where the values of a chunk stand whose meta data has these fields: it isn't compressed, has no dictionary, and as many values as the row group has rows.
 abbrev pub span_with : (column : ℕ) → (rows codec values data_page : ℤ) → (dictionary_page : Option ℤ) → Result Span PqRefusal
 span_with column rows codec values data_page dictionary_page =
-    if not (int_eq codec (pos 0)) then Err (Codec column)
+    if not (int_eq codec uncompressed) then Err (Codec column)
     else if is_above_zero dictionary_page then Err (Encoding column)
     else if int_eq values rows then Ok (record { place = natural data_page; count = natural values })
     else Err (Bounds column)
@@ -76,6 +80,11 @@ spans_at asked (span ∷ spans) file = do
   more ← spans_at asked spans file
   Ok (front ++ more)
 
+-- how many values spans have
+abbrev pub values_of : List Span → ℕ
+values_of [] = 0
+values_of (span ∷ spans) = span.count + values_of spans
+
 -- ---- columns
 
 -- the values of the column of a name: first its leaf, then its chunk in each row group, then the pages of each
@@ -94,12 +103,6 @@ columns_at footer file column (name ∷ names) =
 
 -- ---- absent values
 
--- the row of the first absent value, where the first value has the row at
-abbrev pub first_absent : (at : ℕ) → List (Option ℤ) → Option ℕ
-first_absent at [] = None
-first_absent at (None ∷ values) = Some at
-first_absent at (Some n ∷ values) = first_absent (at + 1) values
-
 -- the lesser of two rows, either of which may be absent
 abbrev pub lesser : Option ℕ → Option ℕ → Option ℕ
 lesser None other = other
@@ -110,12 +113,6 @@ lesser (Some row) (Some other) = Some (min row other)
 abbrev pub least_absent : List (List (Option ℤ)) → Option ℕ
 least_absent [] = None
 least_absent (values ∷ columns) = lesser (first_absent 1 values) (least_absent columns)
-
--- the values that are there
-abbrev pub present : List (Option ℤ) → List ℤ
-present [] = []
-present (None ∷ values) = present values
-present (Some n ∷ values) = n ∷ present values
 
 -- the columns, where no row lacks a value
 abbrev pub unless_absent : Option ℕ → List (List ℤ) → Result (List (List ℤ)) PqRefusal

@@ -13,7 +13,11 @@ use Rattle.hx_pqmeta.specs.PageHeaders.{page_head_of}
 use Rattle.hx_pqread.specs.declared.layout.Asked.{Asked}
 use Rattle.hx_pqread.specs.declared.layout.Layout.{Layout}
 use Rattle.hx_pqread.specs.declared.chunk.Span.{Span}
-use Rattle.hx_pqread.specs.Pages.{text_from, body_values, head_checked}
+use Rattle.hx_pqread.specs.Runs.{HasLevels}
+use Rattle.hx_pqread.specs.Levels.{levels_in}
+use Rattle.hx_pqread.specs.Values.{all_there}
+use Rattle.hx_pqread.specs.Bodies.{IsBody, body_values}
+use Rattle.hx_pqread.specs.Pages.{text_from, head_checked}
 use Rattle.hx_pqread.specs.Columns.{places_of, layout_of, group_span, column_at, columns_in}
 
 -- A page of a column stands at a place: a spelled header, and behind it a body of these values, which ends at next.
@@ -31,7 +35,7 @@ pub record IsPage (asked : Asked) (file : List ℕ) (place : ℕ) (values : List
   pub stored_size : head.stored_size ≡ pos size
   pub count : head.values ≡ pos (length values)
   pub fits : size ≤ asked.end - head.next
-  pub body : body_values asked.layout (length values) (take size (drop head.next file)) ≡ Some values
+  pub body : IsBody asked.layout (take size (drop head.next file)) values
   pub end : next ≡ head.next + size
 
 -- Pages stand at these places, the first at the given one, and each other one where the one before it ends; these are their values, one after another.
@@ -62,11 +66,6 @@ pub record IsColumn (footer : FooterRecord) (file : List ℕ) (column : ℕ) (na
   pub chunks : each (group_span column place) footer.groups ≡ Ok spans
   pub pages : AreSpans (record { column = column; layout = layout; end = footer.start }) file spans values
 
--- numbers as values none of which is absent
-abbrev pub all_there : List ℤ → List (Option ℤ)
-all_there [] = []
-all_there (n ∷ numbers) = Some n ∷ all_there numbers
-
 -- The columns of these names, the first of which has the place column in the list of all names, have these numbers and no absent value.
 abbrev pub AreColumns : FooterRecord → (file : List ℕ) → (column : ℕ) → (names : List (List ℕ)) → (lists : List (List ℤ)) → Type 0
 AreColumns footer file column [] [] = Unit {0}
@@ -87,6 +86,14 @@ refusal_of (Err refusal) = Some refusal
 
 abbrev pub parquet_fault : (file : List ℕ) → (names : List (List ℕ)) → Option PqRefusal
 parquet_fault file names = refusal_of (columns_in file names)
+
+-- Levels stand in bytes exactly where reading gives them.
+abbrev pub ReadsLevels : Type 0
+ReadsLevels = (count : ℕ) (bytes levels : List ℕ) → HasLevels count bytes levels ↔ (levels_in count bytes ≡ Some levels)
+
+-- A body is that of these values exactly where reading gives them.
+abbrev pub ReadsABody : Type 0
+ReadsABody = (layout : Layout) (body : List ℕ) (values : List (Option ℤ)) → IsBody layout body values ↔ (body_values layout (length values) body ≡ Some values)
 
 -- A column has these values, some of which may be absent, exactly where reading gives them.
 abbrev pub ReadsAColumn : Type 0

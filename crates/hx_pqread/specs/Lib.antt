@@ -1,5 +1,9 @@
+pub mod Bodies
 pub mod Columns
+pub mod Keeping
 pub mod Laws
 pub mod Levels
 pub mod Numbers
 pub mod Pages
+pub mod Runs
+pub mod Values

@@ -1,10 +1,9 @@
 ghost use Rattle.std.specs.Prelude.{◌≡◌, ◌<◌, ◌^◌, ℤ, slice_get, IfOk};
-ghost use Rattle.hx_pqmeta.specs.Refusals.{AnswersOrWants, needed, each};
-ghost use Rattle.hx_pqmeta.specs.Footers.{is_above_zero};
-ghost use Rattle.hx_pqread.specs.Pages.{natural};
-ghost use Rattle.hx_pqread.specs.Columns.{span_with, chunk_span, group_span};
+ghost use Rattle.hx_pqmeta.specs.Refusals.{AnswersOrWants, each};
+ghost use Rattle.hx_pqmeta.specs.Footers.{is_above_zero, rows_of};
+ghost use Rattle.hx_pqread.specs.Columns.{span_with, chunk_span, group_span, values_of};
 
-use hx_pqmeta::{Chunk, Group, PqRefusal};
+use hx_pqmeta::{Chunk, Group, PqRefusal, UNCOMPRESSED, natural, needed};
 use std::alloc::Global;
 
 /// Where the values of a chunk stand.
@@ -16,12 +15,6 @@ pub struct Span {
     pub count: u64,
 }
 
-fn natural(number: i64) -> u64
-    ensures { result ≡ natural number }
-{
-    if number < 0 { 0 } else { number as u64 }
-}
-
 fn is_above_zero(number: Option<i64>) -> bool
     ensures { result ≡ is_above_zero number }
 {
@@ -29,12 +22,6 @@ fn is_above_zero(number: Option<i64>) -> bool
         None => false,
         Some(number) => 0 < number,
     }
-}
-
-fn needed(value: Option<i64>, field: u16) -> Result<i64, PqRefusal>
-    ensures { result ≡ needed field value }
-{
-    value.ok_or(PqRefusal::Missing { field })
 }
 
 // The span of a chunk whose meta data has these fields.
@@ -48,7 +35,7 @@ fn span_with(
 ) -> Result<Span, PqRefusal>
     ensures { result ≡ span_with column rows codec values data_page dictionary_page }
 {
-    if codec != 0 {
+    if codec != UNCOMPRESSED {
         return Err(PqRefusal::Codec { column });
     }
     if is_above_zero(dictionary_page) {
@@ -74,7 +61,7 @@ fn chunk_span(column: u32, rows: i64, chunk: &Chunk) -> Result<Span, PqRefusal>
     if !chunk.has_meta {
         return Err(PqRefusal::Missing { field: 403 });
     }
-    let codec = chunk.codec.ok_or(PqRefusal::Missing { field: 504 })?;
+    let codec = needed(chunk.codec, 504)?;
     let values = needed(chunk.values, 505)?;
     let data_page = needed(chunk.data_page, 509)?;
     span_with(
@@ -105,7 +92,8 @@ pub fn spans_of(
     place: usize,
     groups: &[Group],
 ) -> Result<Vec<Span>, PqRefusal>
-    ensures { AnswersOrWants (λ spans. spans.items) result (each (group_span column place) groups.now) }
+    ensures rows { IfOk result (λ spans. values_of spans.items ≡ rows_of groups.now) }
+    ensures value { AnswersOrWants (λ spans. spans.items) result (each (group_span column place) groups.now) }
 {
     let mut spans = Vec::new(alloc);
     for group in groups {

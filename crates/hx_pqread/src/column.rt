@@ -1,33 +1,31 @@
-ghost use Rattle.std.specs.Prelude.{◌≡◌, ◌≤◌, ℤ, List, Option, length, IfOk};
-ghost use Rattle.hx_pqmeta.specs.Refusals.{AnswersOrWants};
-ghost use Rattle.hx_pqread.specs.Pages.{AddsPages};
-ghost use Rattle.hx_pqread.specs.Columns.{spans_at, column_at, first_absent, present};
+ghost use Rattle.std.specs.Prelude.{◌<◌, ◌≤◌, ◌^◌, length};
+ghost use Rattle.hx_pqmeta.specs.Footers.{rows_of};
+ghost use Rattle.hx_pqread.specs.Columns.{spans_at, column_at, values_of};
+ghost use Rattle.hx_pqread.specs.Keeping.{KeepsColumn};
 
 use crate::chunk::{Span, spans_of};
+use crate::kept::Kept;
 use crate::layout::Asked;
 use crate::leaf::{layout_of, place_of};
 use crate::page::read_pages;
 use hx_pqmeta::{Footer, PqRefusal};
-use std::alloc::{AllocError, Global};
+use std::alloc::Global;
 
-// The values of spans, one after another.
-fn read_spans(
-    alloc: Global,
-    asked: Asked,
-    spans: &[Span],
-    file: &[u8],
-) -> Result<Vec<Option<i64>>, PqRefusal>
-    requires { asked.end ≤ length file.now }
-    ensures { AnswersOrWants (λ values. values.items) result (spans_at asked spans.now file.now) }
+// What is kept of the values of spans, one after another.
+fn read_spans(alloc: Global, asked: Asked, spans: &[Span], file: &[u8]) -> Result<Kept, PqRefusal>
+    requires inside { asked.end ≤ length file.now }
+    requires few { values_of spans.now < 2 ^ 64 }
+    ensures { KeepsColumn result (spans_at asked spans.now file.now) }
 {
-    let mut values = Vec::new(alloc);
+    let mut kept = Kept::new(alloc);
     for span in spans {
-        read_pages(alloc, &mut values, asked, span.count, span.place, file)?;
+        read_pages(&mut kept, asked, span.count, span.place, file)?;
     }
-    Ok(values)
+    Ok(kept)
 }
 
-/// The values of the column of a name, which has the place `column` in the list of the names that were asked for.
+/// What is kept of the values of the column of a name, which has the place `column` in the list of the names that were
+/// asked for.
 #[tactic(auto, unfolding(crate::specs::Columns::column_at))]
 pub fn read_column(
     alloc: Global,
@@ -35,9 +33,10 @@ pub fn read_column(
     file: &[u8],
     column: u32,
     name: &[u8],
-) -> Result<Vec<Option<i64>>, PqRefusal>
-    requires { footer.now.start ≤ length file.now }
-    ensures { AnswersOrWants (λ values. values.items) result (column_at footer.now file.now column name.now) }
+) -> Result<Kept, PqRefusal>
+    requires inside { footer.now.start ≤ length file.now }
+    requires few { rows_of footer.now.groups < 2 ^ 63 }
+    ensures { KeepsColumn result (column_at footer.now file.now column name.now) }
 {
     let place = place_of(column, name, footer.leaves())?;
     let layout = layout_of(column, footer.leaves(), place)?;
@@ -48,29 +47,4 @@ pub fn read_column(
         end: footer.start(),
     };
     read_spans(alloc, asked, &spans, file)
-}
-
-/// The row of the first absent value, from 1.
-pub fn first_absent(values: &[Option<i64>]) -> Option<u64>
-    ensures { result ≡ first_absent 1 values.now }
-{
-    for row in 0..values.len() {
-        if values[row].is_none() {
-            return Some(row as u64 + 1);
-        }
-    }
-    None
-}
-
-/// The values that are there.
-pub fn present(alloc: Global, values: &[Option<i64>]) -> Result<Vec<i64>, AllocError>
-    ensures { IfOk result (λ numbers. numbers.items ≡ present values.now) }
-{
-    let mut numbers = Vec::with_capacity(alloc, values.len())?;
-    for value in values {
-        if let Some(number) = value {
-            numbers.push(*number)?;
-        }
-    }
-    Ok(numbers)
 }

@@ -1,8 +1,9 @@
-ghost use Rattle.std.specs.Prelude.{◌≡◌, ◌≤◌, ℕ, map, length, string_bytes, Ok, IfOk};
+ghost use Rattle.std.specs.Prelude.{◌≡◌, ◌<◌, ◌≤◌, ◌^◌, ℕ, map, length, string_bytes, Ok, IfOk};
 ghost use Rattle.hx_pqmeta.specs.Refusals.{AnswersOrWants};
-ghost use Rattle.hx_pqread.specs.Columns.{columns_at, lesser, least_absent, present, unless_absent, columns_in, AnswersColumns, HaveRows};
+ghost use Rattle.hx_pqmeta.specs.Footers.{rows_of};
+ghost use Rattle.hx_pqread.specs.Columns.{columns_at, lesser, unless_absent, columns_in, AnswersColumns, HaveRows};
 
-use crate::column::{first_absent, present, read_column};
+use crate::column::read_column;
 use crate::lists::Columns;
 use hx_pqmeta::{Footer, PqRefusal, read_footer};
 use std::alloc::Global;
@@ -14,7 +15,8 @@ use std::alloc::Global;
 /// its pages. Null comes last, and names the least row, from 1, at which a column has no value. `column` is the place
 /// of a name.
 ///
-/// All columns that are read have equally many numbers.
+/// All columns that are read have equally many numbers. Memory is taken for the numbers of values that are there alone,
+/// eight bytes each: levels and absent values are counted.
 pub fn columns(alloc: Global, bytes: &[u8], names: &[String]) -> Result<Columns, PqRefusal>
     ensures count { IfOk result (λ columns. length columns ≡ length names.now) }
     ensures rows { IfOk result (λ columns. (rows : ℕ) × HaveRows rows columns) }
@@ -68,16 +70,16 @@ fn read_columns(
     file: &[u8],
     names: &[String],
 ) -> Result<(Vec<Vec<i64>>, Option<u64>), PqRefusal>
-    requires { footer.now.start ≤ length file.now }
+    requires inside { footer.now.start ≤ length file.now }
+    requires few { rows_of footer.now.groups < 2 ^ 63 }
     ensures { AnswersColumns (λ x. map (λ list. list.items) x.0.items) (λ x. x.1) result (columns_at footer.now file.now 0 (map string_bytes names.now)) }
 {
     let mut lists = Vec::new(alloc);
     let mut absent = None;
     for i in 0..names.len() {
-        let values = read_column(alloc, footer, file, column_of(i)?, names[i].as_bytes())?;
-        absent = lesser(absent, first_absent(&values));
-        let list = present(alloc, &values)?;
-        lists.push(list)?;
+        let kept = read_column(alloc, footer, file, column_of(i)?, names[i].as_bytes())?;
+        absent = lesser(absent, kept.absent);
+        lists.push(kept.numbers)?;
     }
     Ok((lists, absent))
 }

@@ -3,7 +3,7 @@ ghost use Rattle.std.specs.Cmp.Lexicographic.{pointwise};
 ghost use Rattle.hx_pqread.specs.Columns.{places_of, only, is_wide_kind, layout_of};
 
 use crate::layout::Layout;
-use hx_pqmeta::{Leaf, PqRefusal};
+use hx_pqmeta::{INT32_TYPE, INT64_TYPE, Leaf, OPTIONAL, PqRefusal};
 
 fn is_named(leaf: &Leaf, name: &[u8]) -> bool
     ensures { result ≡ pointwise nat_eq leaf.now.name name.now }
@@ -32,8 +32,8 @@ fn is_wide_kind(column: u32, kind: Option<i32>) -> Result<bool, PqRefusal>
     ensures { result ≡ is_wide_kind column kind }
 {
     match kind {
-        Some(1) => Ok(false),
-        Some(2) => Ok(true),
+        Some(INT32_TYPE) => Ok(false),
+        Some(INT64_TYPE) => Ok(true),
         _ => Err(PqRefusal::Column { column }),
     }
 }
@@ -49,7 +49,7 @@ pub fn layout_of(column: u32, leaves: &[Leaf], place: usize) -> Result<Layout, P
             let is_wide = is_wide_kind(column, leaf.kind())?;
             Ok(Layout {
                 is_wide,
-                is_optional: leaf.repetition() == 1,
+                is_optional: leaf.repetition() == OPTIONAL,
             })
         }
     }

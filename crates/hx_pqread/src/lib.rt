@@ -6,6 +6,7 @@
 mod chunk;
 mod column;
 mod file;
+mod kept;
 mod laws;
 mod layout;
 mod leaf;

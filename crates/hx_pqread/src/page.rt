@@ -1,54 +1,20 @@
-ghost use Rattle.std.specs.Prelude.{◌≡◌, ◌+◌, ◌-◌, ◌*◌, ◌++◌, ◌<◌, ◌≤◌, ◌^◌, ℕ, ℤ, List, Option, length, take, drop, IfOk, IsTrue, Ok, Err, Some, None};
+ghost use Rattle.std.specs.Prelude.{◌≡◌, ◌+◌, ◌-◌, ◌*◌, ◌<◌, ◌≤◌, ◌^◌, length, IfOk, IfSome, IsTrue};
 ghost use Rattle.std.specs.Option.{option_map};
+ghost use Rattle.hx_pqmeta.specs.Naturals.{natural};
 ghost use Rattle.hx_pqmeta.specs.Refusals.{AnswersOrWants};
-ghost use Rattle.hx_pqread.specs.Numbers.{given};
-ghost use Rattle.hx_pqread.specs.Levels.{levels_at};
-ghost use Rattle.hx_pqread.specs.Pages.{text_from, required_body, spread_body, levels_len, optional_body, body_values, runs_checked, head_checked, are_sizes, natural, body_at, page_behind, page_at, pages_at, AddsValues, AddsPage, AddsPages};
+ghost use Rattle.hx_pqread.specs.Levels.{IsWithin};
+ghost use Rattle.hx_pqread.specs.Bodies.{levels_len, optional_parts, body_parts, told_parts, body_values};
+ghost use Rattle.hx_pqread.specs.Pages.{runs_checked, head_checked, are_sizes, body_at, page_behind, page_at, pages_at};
+ghost use Rattle.hx_pqread.specs.Keeping.{KeepsBody, KeepsPage, KeepsPages};
 
+use crate::kept::Kept;
 use crate::layout::{Asked, Layout};
-use crate::levels::read_levels;
-use crate::numbers::{given, is_multiple, push_plain, push_spread, size};
-use hx_pqmeta::{PageHead, PqRefusal, read_page_header};
-use std::alloc::{AllocError, Global};
-
-// Adds the values of a body without levels, and answers whether the body is so many numbers and nothing else.
-#[tactic(auto, unfolding(crate::specs::Pages::required_body))]
-fn required_body(
-    values: &mut Vec<Option<i64>>,
-    is_wide: bool,
-    count: usize,
-    body: &[u8],
-) -> Result<bool, AllocError>
-    ensures { IfOk result (λ is_right. AddsValues values.old.items values.new.items is_right (required_body is_wide count body.now)) }
-{
-    if !is_multiple(body.len(), count, size(is_wide)) {
-        return Ok(false);
-    }
-    push_plain(values, is_wide, count, body)?;
-    Ok(true)
-}
-
-// Adds the values of a body with these levels, and answers whether the numbers are as many as the levels say.
-#[tactic(auto, unfolding(crate::specs::Pages::spread_body))]
-fn spread_body(
-    values: &mut Vec<Option<i64>>,
-    is_wide: bool,
-    levels: Option<Vec<u8>>,
-    numbers: &[u8],
-) -> Result<bool, AllocError>
-    ensures { IfOk result (λ is_right. AddsValues values.old.items values.new.items is_right (spread_body is_wide (option_map (λ v. v.items) levels) numbers.now)) }
-{
-    match levels {
-        None => Ok(false),
-        Some(levels) => {
-            if !is_multiple(numbers.len(), given(&levels), size(is_wide)) {
-                return Ok(false);
-            }
-            push_spread(values, is_wide, &levels, numbers)?;
-            Ok(true)
-        }
-    }
-}
+use crate::levels::{Told, equal, read_levels};
+use crate::numbers::{is_multiple, size};
+use hx_pqmeta::{
+    DATA_PAGE, PLAIN_ENCODING, PageHead, PqRefusal, RLE_ENCODING, natural, read_page_header,
+};
+use std::alloc::AllocError;
 
 // The length of the levels of a body.
 fn levels_len(body: &[u8]) -> u32
@@ -59,47 +25,56 @@ fn levels_len(body: &[u8]) -> u32
     u32::from_le_bytes([front[0], front[1], front[2], front[3]])
 }
 
-// The like for a body that begins with levels.
-#[tactic(auto, unfolding(crate::specs::Pages::optional_body))]
-fn optional_body(
-    alloc: Global,
-    values: &mut Vec<Option<i64>>,
-    is_wide: bool,
-    count: usize,
-    body: &[u8],
-) -> Result<bool, AllocError>
+// What the levels say of the values of an OPTIONAL body, and the bytes of its numbers.
+#[tactic(auto, unfolding(crate::specs::Bodies::optional_parts))]
+fn optional_parts(count: usize, body: &[u8]) -> Option<(Told, &[u8])>
     requires { count < 2 ^ 31 }
-    ensures { IfOk result (λ is_right. AddsValues values.old.items values.new.items is_right (optional_body is_wide count body.now)) }
+    ensures within { IfSome result (λ parts. IsWithin parts.0 × (parts.0.count ≡ count)) }
+    ensures value { option_map (λ parts. (parts.0, parts.1.now)) result ≡ told_parts (optional_parts count body.now) }
 {
     if body.len() < 4 {
-        return Ok(false);
+        return None;
     }
     let len = levels_len(body) as usize;
     let (_, rest) = body.split_at(4);
     if rest.len() < len {
-        return Ok(false);
+        return None;
     }
     let (runs, _) = rest.split_at(len);
     let (_, numbers) = body.split_at(4 + len);
-    let levels = read_levels(alloc, runs, count)?;
-    spread_body(values, is_wide, levels, numbers)
+    let told = read_levels(runs, count)?;
+    Some((told, numbers))
 }
 
-// The values of a body of so many.
-fn body_values(
-    alloc: Global,
-    values: &mut Vec<Option<i64>>,
-    layout: Layout,
-    count: usize,
-    body: &[u8],
-) -> Result<bool, AllocError>
+// The like for any body of so many values.
+fn body_parts(is_optional: bool, count: usize, body: &[u8]) -> Option<(Told, &[u8])>
     requires { count < 2 ^ 31 }
-    ensures { IfOk result (λ is_right. AddsValues values.old.items values.new.items is_right (body_values layout count body.now)) }
+    ensures within { IfSome result (λ parts. IsWithin parts.0 × (parts.0.count ≡ count)) }
+    ensures value { option_map (λ parts. (parts.0, parts.1.now)) result ≡ told_parts (body_parts is_optional count body.now) }
 {
-    if layout.is_optional {
-        optional_body(alloc, values, layout.is_wide, count, body)
+    if is_optional {
+        optional_parts(count, body)
     } else {
-        required_body(values, layout.is_wide, count, body)
+        Some((equal(1, count), body))
+    }
+}
+
+// Keeps the values of a body of so many, and answers whether the body is as it has to be.
+#[tactic(auto, unfolding(crate::specs::Bodies::body_values, crate::specs::Bodies::spread_at))]
+fn keep_body(kept: &mut Kept, layout: Layout, count: usize, body: &[u8]) -> Result<bool, AllocError>
+    requires small { count < 2 ^ 31 }
+    requires few { kept.old.count + count < 2 ^ 64 }
+    ensures { IfOk result (λ is_right. KeepsBody kept.old kept.new is_right (body_values layout count body.now)) }
+{
+    match body_parts(layout.is_optional, count, body) {
+        None => Ok(false),
+        Some((told, numbers)) => {
+            if !is_multiple(numbers.len(), told.given, size(layout.is_wide)) {
+                return Ok(false);
+            }
+            kept.keep(told, layout.is_wide, numbers)?;
+            Ok(true)
+        }
     }
 }
 
@@ -109,7 +84,7 @@ fn head_checked(column: u32, layout: Layout, head: PageHead) -> Result<PageHead,
     ensures same { IfOk result (λ checked. checked ≡ head) }
     ensures value { result ≡ head_checked column layout head }
 {
-    if head.kind != 0 || head.encoding != 0 {
+    if head.kind != DATA_PAGE || head.encoding != PLAIN_ENCODING {
         return Err(PqRefusal::Encoding { column });
     }
     if layout.is_optional {
@@ -125,7 +100,7 @@ fn runs_checked(column: u32, head: PageHead) -> Result<PageHead, PqRefusal>
 {
     match head.levels {
         None => Err(PqRefusal::Missing { field: 703 }),
-        Some(3) => Ok(head),
+        Some(RLE_ENCODING) => Ok(head),
         Some(_) => Err(PqRefusal::Encoding { column }),
     }
 }
@@ -133,6 +108,7 @@ fn runs_checked(column: u32, head: PageHead) -> Result<PageHead, PqRefusal>
 // Whether a head's counts fit where `room` bytes stand behind it and `left` values are to come.
 fn are_sizes(left: u64, room: u64, plain_size: i32, stored_size: i32, values: i32) -> bool
     ensures room { IsTrue result → natural stored_size ≤ room }
+    ensures few { IsTrue result → natural values ≤ left }
     ensures value { result ≡ are_sizes left room plain_size stored_size values }
 {
     0 <= plain_size
@@ -142,11 +118,12 @@ fn are_sizes(left: u64, room: u64, plain_size: i32, stored_size: i32, values: i3
         && values as u64 <= left
 }
 
-fn natural(number: i32) -> usize
+// A count or size of a page.
+fn small(number: i32) -> usize
     ensures small { result < 2 ^ 31 }
     ensures value { result ≡ natural number }
 {
-    if number < 0 { 0 } else { number as usize }
+    natural(i64::from(number)) as usize
 }
 
 // The body behind a head.
@@ -159,6 +136,7 @@ fn body_at<'a>(
 ) -> Result<&'a [u8], PqRefusal>
     requires { (head.next ≤ asked.end) × (asked.end ≤ length file.now) }
     ensures room { IfOk result (λ _. head.next + natural head.stored_size ≤ asked.end) }
+    ensures few { IfOk result (λ _. natural head.values ≤ left) }
     ensures value { AnswersOrWants (λ body. body.now) result (body_at asked left head file.now) }
 {
     if !are_sizes(
@@ -173,27 +151,27 @@ fn body_at<'a>(
         });
     }
     let (_, rest) = file.split_at(head.next as usize);
-    let (body, _) = rest.split_at(natural(head.stored_size));
+    let (body, _) = rest.split_at(small(head.stored_size));
     Ok(body)
 }
 
-// Adds the values of the page with this head, and gives the place behind it.
+// Keeps the values of the page with this head, and gives the place behind it.
 #[tactic(auto, unfolding(crate::specs::Pages::page_behind))]
 fn page_behind(
-    alloc: Global,
-    values: &mut Vec<Option<i64>>,
+    kept: &mut Kept,
     asked: Asked,
     left: u64,
     head: PageHead,
     file: &[u8],
 ) -> Result<u64, PqRefusal>
-    requires { (head.next ≤ asked.end) × (asked.end ≤ length file.now) }
-    ensures { AddsPage values.old.items values.new.items result (page_behind asked left head file.now) }
+    requires inside { (head.next ≤ asked.end) × (asked.end ≤ length file.now) }
+    requires few { kept.old.count + left < 2 ^ 64 }
+    ensures { KeepsPage kept.old kept.new result (page_behind asked left head file.now) }
 {
     let head = head_checked(asked.column, asked.layout, head)?;
     let body = body_at(asked, left, head, file)?;
-    if body_values(alloc, values, asked.layout, natural(head.values), body)? {
-        Ok(head.next + natural(head.stored_size) as u64)
+    if keep_body(kept, asked.layout, small(head.values), body)? {
+        Ok(head.next + small(head.stored_size) as u64)
     } else {
         Err(PqRefusal::Bounds {
             column: asked.column,
@@ -201,18 +179,18 @@ fn page_behind(
     }
 }
 
-// Adds the values of the page at a place, and gives the place behind it.
+// Keeps the values of the page at a place, and gives the place behind it.
 #[tactic(auto, unfolding(crate::specs::Pages::page_at))]
 fn page_at(
-    alloc: Global,
-    values: &mut Vec<Option<i64>>,
+    kept: &mut Kept,
     asked: Asked,
     left: u64,
     place: u64,
     file: &[u8],
 ) -> Result<u64, PqRefusal>
-    requires { asked.end ≤ length file.now }
-    ensures { AddsPage values.old.items values.new.items result (page_at asked left place file.now) }
+    requires inside { asked.end ≤ length file.now }
+    requires few { kept.old.count + left < 2 ^ 64 }
+    ensures { KeepsPage kept.old kept.new result (page_at asked left place file.now) }
 {
     if place < 4 || asked.end <= place {
         return Err(PqRefusal::Bounds {
@@ -222,32 +200,31 @@ fn page_at(
     let (_, rest) = file.split_at(place as usize);
     let (text, _) = rest.split_at((asked.end - place) as usize);
     let head = read_page_header(text, place)?;
-    page_behind(alloc, values, asked, left, head, file)
+    page_behind(kept, asked, left, head, file)
 }
 
-/// Adds `count` values, from pages one after another, the first of which stands at `place`.
+/// Keeps `count` values, from pages one after another, the first of which stands at `place`.
 pub fn read_pages(
-    alloc: Global,
-    values: &mut Vec<Option<i64>>,
+    kept: &mut Kept,
     asked: Asked,
     count: u64,
     place: u64,
     file: &[u8],
 ) -> Result<(), PqRefusal>
-    requires { asked.end ≤ length file.now }
-    ensures { AddsPages values.old.items values.new.items result (pages_at asked asked.end count place file.now) }
+    requires inside { asked.end ≤ length file.now }
+    requires few { kept.old.count + count < 2 ^ 64 }
+    ensures { KeepsPages kept.old kept.new result (pages_at asked asked.end count place file.now) }
 {
-    let mut left = count;
-    let mut place = place;
+    let total = kept.count + count;
+    let mut next = place;
     for _ in 0..asked.end {
-        if left == 0 {
+        if kept.count == total {
             return Ok(());
         }
-        let before = values.len();
-        place = page_at(alloc, values, asked, left, place, file)?;
-        left = left.saturating_sub((values.len() - before) as u64);
+        let left = total - kept.count;
+        next = page_at(kept, asked, left, next, file)?;
     }
-    if left == 0 {
+    if kept.count == total {
         Ok(())
     } else {
         Err(PqRefusal::Bounds {

@@ -32,7 +32,7 @@ const REQUIRED_INT64: [(i64, &'static [u8], Expected); 5] = [
 ];
 
 // The length of the levels in four bytes, runs of levels, a number for each level 1.
-const OPTIONAL_INT32: [(i64, &'static [u8], Expected); 32] = [
+const OPTIONAL_INT32: [(i64, &'static [u8], Expected); 39] = [
     // One run of equal levels, and several.
     (
         2,
@@ -63,6 +63,23 @@ const OPTIONAL_INT32: [(i64, &'static [u8], Expected); 32] = [
         b"\x04\0\0\0\x02\x01\x03\x01\x05\0\0\0\x07\0\0\0",
         Ok(&[&[5, 7]]),
     ),
+    // Eleven levels of two groups, whose last byte has absent ones past them.
+    (
+        11,
+        b"\x03\0\0\0\x05\xff\x07\x01\0\0\0\x02\0\0\0\x03\0\0\0\x04\0\0\0\x05\0\0\0\x06\0\0\0\x07\0\0\0\x08\0\0\0\x09\0\0\0\x0a\0\0\0\x0b\0\0\0",
+        Ok(&[&[1, 2, 3, 4, 5, 6, 7, 8, 9, 10, 11]]),
+    ),
+    // Headers of ten bytes: a run of one level, and one of 2^63 - 1.
+    (
+        1,
+        b"\x0b\0\0\0\x82\x80\x80\x80\x80\x80\x80\x80\x80\0\x01\x05\0\0\0",
+        Ok(&[&[5]]),
+    ),
+    (
+        2,
+        b"\x0b\0\0\0\xfe\xff\xff\xff\xff\xff\xff\xff\xff\x01\x01\x05\0\0\0\x07\0\0\0",
+        Ok(&[&[5, 7]]),
+    ),
     // What stands behind the last level is passed over, whatever it is.
     (1, b"\x04\0\0\0\x02\x01\x02\x07\x05\0\0\0", Ok(&[&[5]])),
     (1, b"\x05\0\0\0\x03\x01\xff\xff\xff\x05\0\0\0", Ok(&[&[5]])),
@@ -84,6 +101,23 @@ const OPTIONAL_INT32: [(i64, &'static [u8], Expected); 32] = [
         b"\x02\0\0\0\x03\x3f\x01\0\0\0\x02\0\0\0\x03\0\0\0\x04\0\0\0\x05\0\0\0\x06\0\0\0",
         Err(PqRefusal::Null { row: 7 }),
     ),
+    (
+        10,
+        b"\x03\0\0\0\x05\xff\x01\x01\0\0\0\x02\0\0\0\x03\0\0\0\x04\0\0\0\x05\0\0\0\x06\0\0\0\x07\0\0\0\x08\0\0\0\x09\0\0\0",
+        Err(PqRefusal::Null { row: 10 }),
+    ),
+    // 2^31 - 1 levels of one run: absent ones, and ones that are there, over one number and over none.
+    (
+        2147483647,
+        b"\x06\0\0\0\xfe\xff\xff\xff\x0f\0",
+        Err(PqRefusal::Null { row: 1 }),
+    ),
+    (
+        2147483647,
+        b"\x06\0\0\0\xfe\xff\xff\xff\x0f\x01\x05\0\0\0",
+        BOUNDS,
+    ),
+    (2147483647, b"\x06\0\0\0\xfe\xff\xff\xff\x0f\x01", BOUNDS),
     // A level of 2, also in a run of no levels.
     (1, b"\x02\0\0\0\x02\x02\x05\0\0\0", BOUNDS),
     (1, b"\x04\0\0\0\0\x02\x02\x01\x05\0\0\0", BOUNDS),

@@ -324,6 +324,114 @@ fn optional_pages(rt: HostRuntime) -> Result<(), Fail> {
     Ok(())
 }
 
+// Two rows of `c`, the second of them absent; three, the third of them absent.
+const NO_SECOND: Page = Page {
+    values: 2,
+    body: b"\x02\0\0\0\x03\x01\x07\0\0\0\0\0\0\0",
+    sizes: None,
+};
+
+const NO_THIRD: Page = Page {
+    values: 3,
+    body: b"\x04\0\0\0\x04\x01\x02\0\x07\0\0\0\0\0\0\0\x08\0\0\0\0\0\0\0",
+    sizes: None,
+};
+
+// Chunks of `c`.
+const THERE: Chunk<'static> = Chunk {
+    pages: &[ONE_LEVEL],
+    ..CHUNK
+};
+
+const SECOND: Chunk<'static> = Chunk {
+    pages: &[NO_SECOND],
+    ..CHUNK
+};
+
+const THIRD: Chunk<'static> = Chunk {
+    pages: &[NO_THIRD],
+    ..CHUNK
+};
+
+const SECOND_BEHIND_ONE: Chunk<'static> = Chunk {
+    pages: &[ONE_LEVEL, NO_SECOND],
+    ..CHUNK
+};
+
+const THIRD_BEHIND_ONE: Chunk<'static> = Chunk {
+    pages: &[ONE_LEVEL, NO_THIRD],
+    ..CHUNK
+};
+
+const SECOND_AND_THIRD: Chunk<'static> = Chunk {
+    pages: &[NO_LEVELS, NO_SECOND, NO_THIRD],
+    ..CHUNK
+};
+
+// Row groups of the leaf `c`, and the row that is named: rows count over pages and groups, and the first absent one is
+// named.
+const ABSENT: [(&[Group], u64); 6] = [
+    (&[Group(3, &[SECOND_BEHIND_ONE])], 3),
+    (&[Group(5, &[SECOND_AND_THIRD])], 2),
+    (&[Group(4, &[THIRD_BEHIND_ONE])], 4),
+    (&[Group(1, &[THERE]), Group(2, &[SECOND])], 3),
+    (
+        &[
+            Group(1, &[THERE]),
+            Group(0, &[CHUNK]),
+            Group(4, &[THIRD_BEHIND_ONE]),
+        ],
+        5,
+    ),
+    (&[Group(3, &[THIRD]), Group(2, &[SECOND])], 3),
+];
+
+#[test]
+fn first_absent_row(rt: HostRuntime) -> Result<(), Fail> {
+    for (groups, row) in ABSENT {
+        let file = file(rt.alloc(), &[C], groups)?;
+        let null = Err(PqRefusal::Null { row });
+        check(&rt, rt.alloc(), &file, &["c"], null)?;
+    }
+    Ok(())
+}
+
+// Five columns that share one page, whose levels are one run of absent ones: 5 of them, 2^27 and 2^31 - 1.
+const SHARED: [(i64, &'static [u8]); 3] = [
+    (5, b"\x02\0\0\0\x0a\0"),
+    (1 << 27, b"\x06\0\0\0\x80\x80\x80\x80\x01\0"),
+    (2147483647, b"\x06\0\0\0\xfe\xff\xff\xff\x0f\0"),
+];
+
+const FIVE: [Leaf; 5] = [
+    Leaf("_healpix_29", Some(2), 1),
+    Leaf("id", Some(2), 1),
+    Leaf("cx", Some(2), 1),
+    Leaf("cy", Some(2), 1),
+    Leaf("cz", Some(2), 1),
+];
+
+#[test]
+fn shared_page(rt: HostRuntime) -> Result<(), Fail> {
+    for (rows, body) in SHARED {
+        let page = Page {
+            values: rows,
+            body,
+            sizes: None,
+        };
+        let first = Chunk {
+            pages: &[page],
+            ..CHUNK
+        };
+        let chunks = [first, AT_4, AT_4, AT_4, AT_4];
+        let file = file(rt.alloc(), &FIVE, &[Group(rows, &chunks)])?;
+        let null = Err(PqRefusal::Null { row: 1 });
+        let names = ["_healpix_29", "id", "cx", "cy", "cz"];
+        check(&rt, rt.alloc(), &file, &names, null)?;
+    }
+    Ok(())
+}
+
 // Leaves, each with a chunk of one value, and what `a` reads as.
 const LEAVES: [(&[Leaf], Expected); 11] = [
     (&[A, B], Ok(&[&[7]])),

@@ -1,5 +1,6 @@
 use Rattle.std.proofs.Common.{◌≡◌, List, ℤ, Option, map, drop, string_bytes}
-use Rattle.hx_pqread.specs.Columns.{columns_at, least_absent, present}
+use Rattle.hx_pqread.specs.Values.{present}
+use Rattle.hx_pqread.specs.Columns.{columns_at, least_absent}
 use Rattle.hx_pqread.proofs.Joins.{with_columns}
 use Rattle.hx_pqread.proofs.file.read_columns.Given as goal
 

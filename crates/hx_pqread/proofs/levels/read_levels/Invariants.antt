@@ -1,10 +1,12 @@
-use Rattle.std.proofs.Common.{◌≡◌, ◌-◌, ◌≤◌, length}
-use Rattle.hx_pqread.specs.Levels.{levels_at}
-use Rattle.hx_pqread.proofs.Runs.{with_levels}
+use Rattle.std.proofs.Common.{◌≡◌, ◌-◌, ◌≤◌}
+use Rattle.std.specs.Option.{option_map}
+use Rattle.hx_pqread.specs.Levels.{levels_at, levels_in, told_of, IsWithin}
+use Rattle.hx_pqread.proofs.Saying.{over}
 use Rattle.hx_pqread.proofs.levels.read_levels.Given as goal
 
 abbrev pub invariant-loop : goal.invariant-loop
 invariant-loop l = record {
-  few : length l.levels.items ≤ l.wanted;
-  so_far : with_levels l.levels.items (levels_at (l.end - l.counter) (l.wanted - length l.levels.items) l.rest) ≡ levels_at (length l.fn.bytes) l.wanted l.fn.bytes;
+  within : IsWithin l.told;
+  few : l.told.count ≤ l.wanted;
+  so_far : over l.told (levels_at (l.end - l.counter) (l.wanted - l.told.count) l.rest) ≡ option_map told_of (levels_in l.wanted l.fn.bytes);
 }
