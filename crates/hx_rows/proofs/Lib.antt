@@ -6,6 +6,7 @@ pub mod Few
 pub mod Indices
 pub mod Lines
 pub mod Numbers
+pub mod OwnRows
 pub mod Spelling
 pub mod Whole
 pub mod Words

@@ -5,6 +5,7 @@ mod digits;
 mod fault;
 mod fields;
 mod header;
+mod laws;
 mod number;
 mod parquet;
 mod plain;
@@ -16,5 +17,6 @@ mod table;
 mod tests;
 
 pub use fault::Fault;
+pub use laws::rows_of_their_columns;
 pub use parquet::{parquet_rows, rows_of_columns};
 pub use read::{RowRefusal, read_rows};
