@@ -1,0 +1,11 @@
+pub mod Each
+pub mod Written
+pub mod Pairs
+pub mod PlanRows
+pub mod Heads
+pub mod SliceRows
+pub mod Slices
+pub mod Order
+pub mod Runs
+pub mod SplitRows
+pub mod Told
