@@ -1,0 +1,7 @@
+mod Digits
+mod Keys
+mod Texts
+mod Listed
+mod Fielded
+mod Stages
+mod Unbroken
