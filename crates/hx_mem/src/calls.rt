@@ -49,6 +49,13 @@ impl Calls {
         self.named.contains(&self.next)
     }
 
+    /// The number of the next call, which is how many there were.
+    pub fn calls(&self) -> u64
+        ensures { result ≡ self.now.calls }
+    {
+        self.next
+    }
+
     /// Counts a call, which has failed or not.
     pub fn count(&mut self, failed: bool)
         ensures after { self.new ≡ counted self.old failed }

@@ -1,4 +1,5 @@
-ghost use Rattle.std.specs.Prelude.{◌≡◌, ◌<◌, ◌≤◌, ◌-◌, ◌^◌, ◌++◌, ◌↔◌, length, min, drop, IfOk, IsTrue, IsErr, OnOk, OnErr, Contains};
+ghost use Rattle.std.specs.Prelude.{◌≡◌, ◌<◌, ◌≤◌, ◌-◌, ◌^◌, ◌++◌, ◌↔◌, length, min, drop, Some, IfOk, IsTrue, IsErr, OnOk, OnErr, Contains};
+ghost use Rattle.hx_outside.specs.Disk.{ReadsBytes};
 ghost use Rattle.hx_outside.specs.Faults.{HasCause};
 ghost use Rattle.hx_outside.specs.Sources.{GivesLength, Gives, SameSource};
 ghost use Rattle.hx_mem.specs.Sources.{IsFresh, after_call, given, mem_source};
@@ -105,11 +106,12 @@ impl Source for MemSource {
     }
 }
 
-// Copies what is left of the bytes from `at` on into the front of the buffer, as far as it fits, and says how
-// many bytes.
-fn copy_from(bytes: &[u8], at: u64, buf: &mut [u8]) -> usize
+/// Copies what is left of the bytes from `at` on into the front of the buffer, as far as it fits, and says how
+/// many bytes.
+pub fn copy_from(bytes: &[u8], at: u64, buf: &mut [u8]) -> usize
     ensures count { result ≡ min (length buf.old) (length bytes.now - at) }
     ensures gives { buf.new ≡ given bytes.now at (length buf.old) ++ drop result buf.old }
+    ensures reads { ReadsBytes (Some bytes.now) at buf.old buf.new result }
 {
     if at >= bytes.len() as u64 {
         return 0;

@@ -1,4 +1,8 @@
 //! Calls by their numbers, with what each answers and leaves.
+mod crashes;
+mod gates;
+mod stores;
+
 use crate::{MemSink, MemSource};
 use hx_outside::{Failed, Sink, Source};
 use std::test::Fail;

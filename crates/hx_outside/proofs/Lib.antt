@@ -1,0 +1,4 @@
+pub mod Names
+pub mod Runs
+pub mod Steps
+pub mod Calls

@@ -17,6 +17,6 @@ pub record HasCause {S T E : Type 0} (faults : S → ℕ) (before now : S) (resu
   pub failed : OnErr result (HasFailed faults before now)
 
 -- the same of a store, whose calls may also want memory
-pub record HasStoreCause {T : Type 0} (before now : ℕ) (result : Result T StoreError) : Type 0 where
-  pub later : before ≤ now
-  pub failed : IsErrOf result error.Failed → Rose before now
+pub record HasStoreCause {S T : Type 0} (faults : S → ℕ) (before now : S) (result : Result T StoreError) : Type 0 where
+  pub later : faults before ≤ faults now
+  pub failed : IsErrOf result error.Failed → HasFailed faults before now

@@ -1,0 +1,27 @@
+use Rattle.std.proofs.Common.{◌≡◌, ◌∙◌, ◌<◌, List, ℕ, Option, Some, None, subst, sym, arith, rules}
+use Rattle.hx_outside.specs.Folders.{file_length, Altered, MaySetByte}
+use Rattle.hx_outside.proofs.Calls.{set_byte_same, set_byte_within}
+use Rattle.hx_mem.specs.Files.{folder_of}
+use Rattle.hx_mem.proofs.Torn.{put_back, taken_none}
+use Rattle.hx_mem.proofs.crash.tear_byte.Goals as goal
+
+pub returns-in_default : goal.returns-in_default
+returns-in_default c =
+    let name = c.args.name.now in
+    let reads = folder_of c.args.reads.now in
+    let f = folder_of c.args.image.now.items in
+    let out : c.take_in.result ≡ None = search rules in
+    let is = taken_none name f (folder_of c.take_in.new.files.items) c.take_in.ensures.leaves (sym c.take_in.ensures.gives ∙ out) in
+    subst (MaySetByte name c.args.at reads f) (sym is) (set_byte_same name c.args.at reads f)
+
+pub returns : goal.returns
+returns c =
+    let name = c.args.name.now in
+    let reads = folder_of c.args.reads.now in
+    let f = folder_of c.args.image.now.items in
+    let torn = c.torn_byte.new.bytes in
+    let within : c.args.at < file_length name reads = omega (arith, c.if-at-size_in.false, c.size_in.ensures) in
+    let there : Some c.in-Some.bytes ≡ f name = sym c.in-Some.is ∙ c.take_in.ensures.gives in
+    let step : Altered c.args.at (f name) (Some torn) = subst (λ (o : Option (List ℕ)). Altered c.args.at o (Some torn)) there c.torn_byte.ensures in
+    set_byte_within name c.args.at reads f (folder_of c.put_in.new.files.items) within
+    (put_back name (Altered c.args.at) (Some torn) f (folder_of c.take_in.new.files.items) (folder_of c.put_in.new.files.items) c.take_in.ensures.leaves c.in_ok-put_in.ensures.ok step)
