@@ -1,13 +1,11 @@
-//! The program `hats`: reads its words from the command line, does what they ask for over real files and
-//! standard output, tells a refusal on standard error, and ends with the status.
+//! The program `hats`: reads its words from the command line, does what they ask for over real files, the
+//! current folder and standard output, tells a refusal on standard error, and ends with the status.
 #![tactic(auto)]
 
 mod asking;
-mod file_source;
-mod out_sink;
 mod running;
 
-use out_sink::OutSink;
+use hx_real::OutSink;
 use std::process::ExitCode;
 
 fn main(rt: HostRuntime) -> ExitCode {

@@ -1,4 +1,4 @@
-//! A run behind the arguments: words and their inputs, a sink for the text, and one for a refusal.
+//! A run behind the arguments: words, their inputs and a store, a sink for the text, and one for a refusal.
 ghost use Rattle.std.specs.Prelude.{◌≡◌, ◌⊎◌, IfErr, IfOk, Some, map, string_bytes};
 ghost use Rattle.hats.specs.Runs.{GainsLine, IsRun, IsTold, line_of};
 ghost use Rattle.hx_base.specs.Refusals.{status_after};
@@ -10,56 +10,69 @@ mod tests;
 
 use hx_base::Refusal;
 use hx_cli::{run_plain, text_of};
-use hx_outside::{NoStore, Sink, Source};
+use hx_outside::{Sink, Source, Store};
 use std::alloc::{AllocError, Global};
 
-/// The words after the program's name, and the sources of their inputs.
+/// The words after the program's name, the sources of their inputs, and the store.
 #[derive(Drop)]
-pub struct Asked<Src> {
+pub struct Asked<Src, S> {
     pub words: Vec<String>,
     pub inputs: Vec<Src>,
+    pub store: S,
 }
 
 /// How a run ended.
 #[derive(Drop)]
-pub struct Ended<Src> {
+pub struct Ended<Src, S> {
     /// 0, or the status of what was told.
     pub status: u8,
     pub refusal: Option<Refusal>,
     /// The refusal, or want of memory where there was none for its text.
     pub told: Option<Refusal>,
     pub inputs: Vec<Src>,
+    /// None where the words were not known.
+    pub store: Option<S>,
 }
 
-// What was answered, with the inputs.
+// What was answered, with the inputs and the store.
 #[derive(Drop)]
-struct Answered<Src> {
+struct Answered<Src, S> {
     refusal: Option<Refusal>,
     inputs: Vec<Src>,
+    store: Option<S>,
 }
 
 // Does what was asked, or hands on why it isn't known.
-fn answer<Src: Source, O: Sink>(
+fn answer<Src: Source, S: Store, O: Sink>(
     alloc: Global,
-    asked: Result<Asked<Src>, Refusal>,
+    asked: Result<Asked<Src, S>, Refusal>,
     out: &mut O,
-) -> Answered<Src>
+) -> Answered<Src, S>
     requires { IfOk asked (λ asked. AreInputNames (map string_bytes asked.words.items) (map Src.source.label asked.inputs.items)) }
     ensures run { IfOk asked (λ asked. IsRun Src.source O.sink (map string_bytes asked.words.items)
         asked.inputs.items result.inputs.items out.old out.new result.refusal) }
+    ensures store { IfOk asked (λ asked. result.store ≡ Some asked.store) }
     ensures unknown { IfErr asked (λ refusal. (result.refusal ≡ Some refusal) × (out.new ≡ out.old)) }
 {
     match asked {
-        Ok(Asked { words, inputs }) => {
-            let ran = run_plain(alloc, &words, inputs, NoStore::new(), out);
+        Ok(
+            Asked {
+                words,
+                inputs,
+                store,
+            },
+        ) => {
+            let ran = run_plain(alloc, &words, inputs, store, out);
             Answered {
                 refusal: ran.refusal,
                 inputs: ran.inputs,
+                store: Some(ran.store),
             }
         }
         Err(refusal) => Answered {
             refusal: Some(refusal),
             inputs: Vec::new(alloc),
+            store: None,
         },
     }
 }
@@ -110,17 +123,18 @@ fn status_of(told: Option<Refusal>) -> u8
 }
 
 /// Does what was asked, tells a refusal, and says with which status the program ends.
-pub fn run<Src: Source, O: Sink, E: Sink>(
+pub fn run<Src: Source, S: Store, O: Sink, E: Sink>(
     alloc: Global,
-    asked: Result<Asked<Src>, Refusal>,
+    asked: Result<Asked<Src, S>, Refusal>,
     out: &mut O,
     errors: &mut E,
-) -> Ended<Src>
+) -> Ended<Src, S>
     // The inputs' names are the file words of the line.
     requires { IfOk asked (λ asked. AreInputNames (map string_bytes asked.words.items) (map Src.source.label asked.inputs.items)) }
 
     ensures run { IfOk asked (λ asked. IsRun Src.source O.sink (map string_bytes asked.words.items)
         asked.inputs.items result.inputs.items out.old out.new result.refusal) }
+    ensures store { IfOk asked (λ asked. result.store ≡ Some asked.store) }
     ensures unknown { IfErr asked (λ refusal. (result.refusal ≡ Some refusal) × (out.new ≡ out.old)) }
     ensures told { IsTold result.refusal result.told }
     ensures line { GainsLine E.sink result.told errors.old errors.new }
@@ -133,5 +147,6 @@ pub fn run<Src: Source, O: Sink, E: Sink>(
         refusal: answered.refusal,
         told,
         inputs: answered.inputs,
+        store: answered.store,
     }
 }

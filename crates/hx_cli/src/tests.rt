@@ -12,8 +12,7 @@ ghost use Rattle.hx_cli.specs.declared.tests.slow.Slow.{Slow};
 
 use crate::{input_names, run_plain, text_of};
 use hx_base::{JobFile, Refusal};
-use hx_mem::{MemSink, MemSource};
-use hx_outside::NoStore;
+use hx_mem::{MemSink, MemSource, MemStore};
 use slow::Slow;
 use std::alloc::{AllocError, Global};
 use std::test::Fail;
@@ -92,7 +91,13 @@ fn run_over(
     let names = input_names(alloc, words.as_slice())?;
     let inputs = sources(alloc, names.as_slice(), contents, most, failing)?;
     let mut out = MemSink::new(alloc, room)?;
-    let ran = run_plain(alloc, words.as_slice(), inputs, NoStore::new(), &mut out);
+    let ran = run_plain(
+        alloc,
+        words.as_slice(),
+        inputs,
+        MemStore::new(alloc),
+        &mut out,
+    );
     Ok(Shown {
         status: ran.status,
         refusal: ran.refusal,

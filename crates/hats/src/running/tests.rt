@@ -1,9 +1,8 @@
 //! Lines over real files, each with its status and with what it writes and tells. Each test begins in an empty folder.
-use super::{Asked, run};
-use crate::asking::with_inputs;
-use crate::file_source::FileSource;
-use crate::out_sink::OutSink;
+use super::run;
+use crate::asking::{AskedOfFiles, with_inputs};
 use hx_base::Refusal;
+use hx_real::OutSink;
 use std::alloc::{AllocError, Global};
 use std::fs;
 use std::test::Fail;
@@ -80,7 +79,7 @@ fn words_that_are_not_known(rt: HostRuntime) -> Result<(), Fail> {
         (Refusal::Memory, 8, "out of memory\n"),
     ];
     for (refusal, status, told) in cases {
-        let asked: Result<Asked<FileSource<HostRuntime>>, Refusal> = Err(refusal);
+        let asked: Result<AskedOfFiles<HostRuntime>, Refusal> = Err(refusal);
         let (mut out, mut errors) = (sink(alloc)?, sink(alloc)?);
         let ended = run(alloc, asked, &mut out, &mut errors);
         assert_eq!(rt; ended.told, Some(refusal));

@@ -1,6 +1,6 @@
 use Rattle.std.proofs.Common.{◌∙◌, ap}
 use Rattle.hx_words.proofs.Named.{named_next}
-use Rattle.hats.specs.Files.{Opened, file_source}
+use Rattle.hx_real.specs.Files.{Opened, file_source}
 use Rattle.hats.proofs.asking.sources.Goals as goal
 
 pub loop-name-preserved : goal.loop-name-preserved

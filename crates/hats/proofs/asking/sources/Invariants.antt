@@ -1,5 +1,5 @@
 use Rattle.std.proofs.Common.{◌≡◌, map, string_bytes, take}
-use Rattle.hats.specs.Files.{file_source}
+use Rattle.hx_real.specs.Files.{file_source}
 use Rattle.hats.proofs.asking.sources.Given as goal
 
 -- the sources so far have the first names

@@ -1,6 +1,6 @@
 //! A source over a real file.
 ghost use Rattle.std.specs.Prelude.{◌≡◌, ◌≤◌, ◌<◌, ◌-◌, Ok, Some, IfOk, IfSome, OnErr, length, false};
-ghost use Rattle.hats.specs.Files.{ReadsWithin, file_source};
+ghost use Rattle.hx_real.specs.Files.{ReadsWithin, file_source};
 ghost use Rattle.hx_outside.specs.Faults.{HasCause};
 ghost use Rattle.hx_outside.specs.Sources.{GivesLength, Gives, SameSource};
 
@@ -29,7 +29,7 @@ pub struct FileSource<R> {
 
 impl<R> Model for FileSource<R> {
     ghost use Rattle.std.specs.Prelude.{is_some, string_bytes};
-    ghost use Rattle.hats.specs.Files as files;
+    ghost use Rattle.hx_real.specs.Files as files;
 
     ghost Value = { files.Opened };
 

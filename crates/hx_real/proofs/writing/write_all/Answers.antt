@@ -1,6 +1,6 @@
 use Rattle.std.proofs.Common.{rules}
-use Rattle.hats.proofs.KnownBytes.{grown_on}
-use Rattle.hats.proofs.out_sink.write_all.Goals as goal
+use Rattle.hx_real.proofs.KnownBytes.{grown_on}
+use Rattle.hx_real.proofs.writing.write_all.Goals as goal
 
 pub loop-at-preserved : goal.loop-at-preserved
 loop-at-preserved g c = record {

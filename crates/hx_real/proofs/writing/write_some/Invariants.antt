@@ -1,5 +1,5 @@
 use Rattle.std.specs.Io.KnownBytes.{Keeps}
-use Rattle.hats.proofs.out_sink.write_some.Given as goal
+use Rattle.hx_real.proofs.writing.write_some.Given as goal
 
 -- an interrupted write leaves what the writer holds
 abbrev pub invariant-loop : goal.invariant-loop

@@ -1,6 +1,6 @@
 use Rattle.std.proofs.Common.{◌-◌, ◌≤◌, length, take}
 use Rattle.std.specs.Io.KnownBytes.{Appends}
-use Rattle.hats.proofs.out_sink.write_all.Given as goal
+use Rattle.hx_real.proofs.writing.write_all.Given as goal
 
 -- the first bytes are written
 abbrev pub invariant-loop-at : goal.invariant-loop-at
