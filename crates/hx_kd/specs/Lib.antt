@@ -1,0 +1,4 @@
+pub mod Axes
+pub mod Halves
+pub mod Closest
+pub mod Found
