@@ -1,0 +1,10 @@
+mod Bodies
+mod Digits
+mod Gates
+mod Headed
+mod Lines
+mod Reading
+mod Steps
+mod Trimming
+mod Unique
+mod Written

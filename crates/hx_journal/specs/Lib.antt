@@ -1,0 +1,4 @@
+pub mod Fronts
+pub mod Headers
+pub mod Journal
+pub mod Refusals

@@ -1,0 +1,23 @@
+//! The journal of an import: which of its tasks are done. A record counts from the moment that its gate is open on the
+//! disk, so that a crash leaves the records before, or these and the new one.
+#![tactic(auto)]
+
+mod creating;
+mod fronts;
+mod header;
+mod heading;
+mod laws;
+mod noting;
+mod opening;
+mod record;
+mod refusal;
+#[cfg(test)]
+mod tests;
+
+pub use creating::create;
+pub use header::header_text;
+pub use laws::{a_file_is_one_journal, no_header_begins_another};
+pub use noting::Journal;
+pub use opening::open;
+pub use record::Record;
+pub use refusal::JournalRefusal;
