@@ -1,0 +1,1 @@
+"""What the companions of hats share: words and messages, tables, positions, and the files of a catalogue."""
