@@ -5,6 +5,9 @@ pub mod Nearest
 pub mod Columns
 pub mod Pixels
 pub mod Touching
+pub mod Contents
+pub mod Boxes
+pub mod Coverage
 pub mod FileWords
 pub mod Refusals
 pub mod FirstRefusals

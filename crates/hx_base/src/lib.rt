@@ -27,7 +27,7 @@ pub use limits::{
     HIGHEST_MARGIN_ORDER, HIGHEST_ORDER, MOST_BYTES, MOST_IN_PARTITION, MOST_INPUTS,
     MOST_PARTITIONS, MOST_ROWS,
 };
-pub use name::Name;
+pub use name::{Name, is_name};
 pub use nearest::{nearest_rows, order_of_matches};
 pub use paths::job_path;
 pub use pixel::{Pixel, pixels_of_order};

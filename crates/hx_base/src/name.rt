@@ -37,8 +37,9 @@ fn has_name_bytes(text: &str) -> bool
     text.as_bytes().iter().all(|&byte| is_name_byte(byte))
 }
 
-// Whether a text may be a catalogue's name.
-fn is_name(text: &str) -> bool
+/// Whether a text may be a catalogue's name: 1 to 32 letters from a to z, digits and underscores, which don't end in
+/// `_margin`.
+pub fn is_name(text: &str) -> bool
     ensures { IsTrue result ↔ IsName text.now }
 {
     if text.is_empty() || text.len() > LONGEST {

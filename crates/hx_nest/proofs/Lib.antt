@@ -9,3 +9,4 @@ mod Lists
 mod Reached
 pub mod Touches
 pub mod Parents
+pub mod Decided

@@ -21,6 +21,11 @@ pub fn touching_is_symmetric()
     ensures { (order p q : ℕ) → Touch order p q → Touch order q p }
 {}
 
+/// Two pixels touch or don't.
+pub fn touching_is_decided()
+    ensures { (order p q : ℕ) → Touch order p q ⊎ (¬ (Touch order p q)) }
+{}
+
 /// The parents of touching pixels are one pixel or touch.
 pub fn parents_of_touching()
     ensures { (order p q : ℕ) → Touch (order + 1) p q → (p / 4 ≡ q / 4) ⊎ Touch order (p / 4) (q / 4) }

@@ -15,7 +15,7 @@ mod touching;
 pub use around::Around;
 pub use laws::{
     ancestors_of_touching, corners_of_faces, parents_of_touching, spots_of_pixels,
-    touching_is_symmetric,
+    touching_is_decided, touching_is_symmetric,
 };
 pub use order::{at_order, first_child, parent};
 pub use spot::{FaceXy, join_xy, split};

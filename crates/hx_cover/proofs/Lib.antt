@@ -1,0 +1,13 @@
+pub mod Members
+pub mod Gaps
+pub mod Extents
+pub mod Covered
+pub mod Firsts
+pub mod NearPixels
+pub mod Joined
+pub mod Unions
+pub mod Runs
+pub mod Walks
+pub mod Searches
+pub mod Adding
+pub mod AddingRows
