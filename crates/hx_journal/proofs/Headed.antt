@@ -1,7 +1,7 @@
 -- The lines of a header, read one after another.
 use Rattle.std.proofs.Common.{◌≡◌, ◌≢◌, ◌∙◌, ◌+◌, ◌^◌, ◌++◌, ◌∷◌, ◌<◌, ◌≤◌, [], suc, ℕ, List, codes, drop, length, map, subst, sym, ap, arith, refl, append_assoc, inl, inr, Option, Some, None, MatchOption}
 use Rattle.hx_journal.specs.Journal.{BeginsByHeader}
-use Rattle.std.proofs.lemmas.List.{append_cancel_left, append_cancel_right}
+use Rattle.std.proofs.lemmas.List.{append_cancel_left}
 use Rattle.std.proofs.lemmas.Str.{IsUtf8-from_ascii}
 use Rattle.std.proofs.lemmas.Str.Ascii.{IsAscii-cons, IsAscii-nil}
 use Rattle.std.specs.Str.{IsAscii, IsUtf8}
@@ -79,11 +79,13 @@ input-begins text rest value word after n is begins at =
 lines-is : (x : Listed) (xs : List Listed) (r : List ℕ) → text_of (map input_line (x ∷ xs)) ++ r ≡ input_line x ++ 10 ∷ (text_of (map input_line xs) ++ r)
 lines-is x xs r = append_assoc (input_line x) (10 ∷ text_of (map input_line xs)) r
 
-one-input : (x y : Listed) (a b : List ℕ) → IsListed x → IsListed y → input_line x ++ 10 ∷ a ≡ input_line y ++ 10 ∷ b → a ≡ b
+one-input : (x y : Listed) (a b : List ℕ) → IsListed x → IsListed y → input_line x ++ 10 ∷ a ≡ input_line y ++ 10 ∷ b → (x ≡ y) × (a ≡ b)
 one-input x y a b fits_x fits_y h =
     let rest = decimal x.len ++ 32 ∷ (x.word ++ 10 ∷ a) in
-    let value = input-word (input_line x ++ 10 ∷ a) rest (x.word ++ 10 ∷ a) b x.len y (input-parts x a) (fits_x.len, refl) fits_y h in
-    (first-line x.word y.word a b (word-line x.word fits_x.word) (word-line y.word fits_y.word) value).1
+    let value = input-value (input_line x ++ 10 ∷ a) rest b y (input-parts x a) h in
+    let number = one-number x.len y.len 32 (x.word ++ 10 ∷ a) (y.word ++ 10 ∷ b) fits_x.len fits_y.len (omega arith) value in
+    let line = first-line x.word y.word a b (word-line x.word fits_x.word) (word-line y.word fits_y.word) number.1 in
+    (λ k. record { len = number.0 k; word = line.0 k }, line.1)
 
 -- where more inputs stand than were read, one more stands there
 pub one-more : (done xs : List Listed) (rest r : List ℕ) → length done < length xs → AreListed done → AreListed xs → text_of (map input_line done) ++ rest ≡ text_of (map input_line xs) ++ r
@@ -92,15 +94,18 @@ one-more [] [] rest r fewer all also h = absurd (omega (arith, fewer))
 one-more [] (x ∷ xs) rest r fewer all also h = (x, also.0, text_of (map input_line xs) ++ r, h ∙ lines-is x xs r)
 one-more (d ∷ done) [] rest r fewer all also h = absurd (omega (arith, fewer))
 one-more (d ∷ done) (x ∷ xs) rest r fewer all also h =
-    one-more done xs rest r (omega (arith, fewer)) all.1 also.1 (one-input d x _ _ all.0 also.0 (sym (lines-is d done rest) ∙ h ∙ lines-is x xs r))
+    one-more done xs rest r (omega (arith, fewer)) all.1 also.1 (one-input d x _ _ all.0 also.0 (sym (lines-is d done rest) ∙ h ∙ lines-is x xs r)).1
 
--- as many inputs end where they end
-pub as-many : (done xs : List Listed) (rest r : List ℕ) → length done ≡ length xs → AreListed done → AreListed xs → text_of (map input_line done) ++ rest ≡ text_of (map input_line xs) ++ r → rest ≡ r
-as-many [] [] rest r same all also h = h
+-- as many inputs are the same, and end where they end
+pub as-many : (done xs : List Listed) (rest r : List ℕ) → length done ≡ length xs → AreListed done → AreListed xs → text_of (map input_line done) ++ rest ≡ text_of (map input_line xs) ++ r
+    → (done ≡ xs) × (rest ≡ r)
+as-many [] [] rest r same all also h = (refl, h)
 as-many [] (x ∷ xs) rest r same all also h = absurd (omega (arith, same))
 as-many (d ∷ done) [] rest r same all also h = absurd (omega (arith, same))
 as-many (d ∷ done) (x ∷ xs) rest r same all also h =
-    as-many done xs rest r (omega (arith, same)) all.1 also.1 (one-input d x _ _ all.0 also.0 (sym (lines-is d done rest) ∙ h ∙ lines-is x xs r))
+    let first = one-input d x (text_of (map input_line done) ++ rest) (text_of (map input_line xs) ++ r) all.0 also.0 (sym (lines-is d done rest) ∙ h ∙ lines-is x xs r) in
+    let more = as-many done xs rest r (omega (arith, same)) all.1 also.1 first.1 in
+    (λ k. first.0 k ∷ more.0 k, more.1)
 
 listed-push : (xs : List Listed) (x : Listed) → AreListed xs → IsListed x → AreListed (xs ++ x ∷ [])
 listed-push [] x all one = (one, tt)
@@ -181,7 +186,7 @@ module _ (s : Settings) (xs : List Listed) (r text : List ℕ) (fits : IsTail s 
             pub some-inputs : HasNoInputs n rest5 → ⊥
             some-inputs none = none xs (codes "end\n" ++ r) (record { long = sym count-is.0; sound = fits.sound }) inputs-are
 
-            pub some-end : (end : List ℕ) (ys : List Listed) → AreSoMany n ys → rest5 ≡ text_of (map input_line ys) ++ end → end ≡ codes "end\n" ++ r
+            pub some-end : (end : List ℕ) (ys : List Listed) → AreSoMany n ys → rest5 ≡ text_of (map input_line ys) ++ end → (ys ≡ xs) × (end ≡ codes "end\n" ++ r)
             some-end end ys many at = as-many ys xs end (codes "end\n" ++ r) (many.long ∙ count-is.0) many.sound fits.sound (sym at ∙ inputs-are)
 
 -- a line in front of a text
@@ -285,29 +290,58 @@ header-read bytes rest1 name rest2 after v b1 low b2 good (s, xs, fits, at) = (h
       inputs = fits.sound;
     }
 
--- headers end where they end
-one-tail : (s t : Settings) (xs ys : List Listed) (r x : List ℕ) → IsTail s xs → IsTail t ys → text_of (tail_lines t ys) ++ x ≡ text_of (tail_lines s xs) ++ r → x ≡ r
+-- headers end where they end, and say one thing
+record SameTail (s t : Settings) (xs ys : List Listed) (r x : List ℕ) : Type 0 where
+  low : t.lowest ≡ s.lowest
+  high : t.highest ≡ s.highest
+  most : t.threshold ≡ s.threshold
+  margin : t.margin_order ≡ s.margin_order
+  inputs : ys ≡ xs
+  rest : x ≡ r
+
+one-tail : (s t : Settings) (xs ys : List Listed) (r x : List ℕ) → IsTail s xs → IsTail t ys → text_of (tail_lines t ys) ++ x ≡ text_of (tail_lines s xs) ++ r → SameTail s t xs ys r x
 one-tail s t xs ys r x fits also is =
-    append_cancel_left (codes "end\n") x r
-    (some-end s xs r (behind-line 0) fits is
-    t.lowest (behind-line 1) (omega (arith, also.limits), line-is (codes "lowest ") t.lowest (drop 1 (tail_lines t ys)) x)
-    t.highest (behind-line 2) (omega (arith, also.limits), line-is (codes "highest ") t.highest (drop 2 (tail_lines t ys)) x)
-    t.threshold (behind-line 3) (omega (arith, also.limits), line-is (codes "threshold ") t.threshold (drop 3 (tail_lines t ys)) x)
-    t.margin_order (behind-line 4) (omega (arith, also.limits), line-is (codes "margin_order ") t.margin_order (drop 4 (tail_lines t ys)) x)
-    (length ys) (behind-line 5) (also.count, line-is (codes "inputs ") (length ys) (input_lines ys) x)
+    let b1 : Begins FitsWord (numbered (codes "lowest ")) 10 (behind-line 0) t.lowest (behind-line 1) = (omega (arith, also.limits), line-is (codes "lowest ") t.lowest (drop 1 (tail_lines t ys)) x) in
+    let b2 : Begins FitsWord (numbered (codes "highest ")) 10 (behind-line 1) t.highest (behind-line 2) = (omega (arith, also.limits), line-is (codes "highest ") t.highest (drop 2 (tail_lines t ys)) x) in
+    let b3 : Begins FitsWord (numbered (codes "threshold ")) 10 (behind-line 2) t.threshold (behind-line 3) = (omega (arith, also.limits), line-is (codes "threshold ") t.threshold (drop 3 (tail_lines t ys)) x) in
+    let b4 : Begins FitsWord (numbered (codes "margin_order ")) 10 (behind-line 3) t.margin_order (behind-line 4) = (omega (arith, also.limits), line-is (codes "margin_order ") t.margin_order (drop 4 (tail_lines t ys)) x) in
+    let b5 : Begins FitsWord (numbered (codes "inputs ")) 10 (behind-line 4) (length ys) (behind-line 5) = (also.count, line-is (codes "inputs ") (length ys) (input_lines ys) x) in
+    let end = some-end s xs r (behind-line 0) fits is t.lowest (behind-line 1) b1 t.highest (behind-line 2) b2 t.threshold (behind-line 3) b3 t.margin_order (behind-line 4) b4 (length ys) (behind-line 5) b5
     (codes "end\n" ++ x) ys (record { long = refl; sound = also.sound })
-    (ap (λ (l : List ℕ). l ++ x) (text-append (map input_line ys) (codes "end" ∷ [])) ∙ append_assoc (text_of (map input_line ys)) (codes "end\n") x))
+    (ap (λ (l : List ℕ). l ++ x) (text-append (map input_line ys) (codes "end" ∷ [])) ∙ append_assoc (text_of (map input_line ys)) (codes "end\n") x) in
+    record {
+      low = (lowest-is s xs r (behind-line 0) fits is t.lowest (behind-line 1) b1).0;
+      high = (highest-is s xs r (behind-line 0) fits is t.lowest (behind-line 1) b1 t.highest (behind-line 2) b2).0;
+      most = (threshold-is s xs r (behind-line 0) fits is t.lowest (behind-line 1) b1 t.highest (behind-line 2) b2 t.threshold (behind-line 3) b3).0;
+      margin = (margin-is s xs r (behind-line 0) fits is t.lowest (behind-line 1) b1 t.highest (behind-line 2) b2 t.threshold (behind-line 3) b3 t.margin_order (behind-line 4) b4).0;
+      inputs = end.0;
+      rest = append_cancel_left (codes "end\n") x r end.1;
+    }
   where
     behind-line : ℕ → List ℕ
     behind-line k = text_of (drop k (tail_lines t ys)) ++ x
 
-pub one-header : (a b x y : List ℕ) → IsHeader a → IsHeader b → a ++ x ≡ b ++ y → (a ≡ b) × (x ≡ y)
-one-header a b x y (g, fits_g, is_g) (h, fits_h, is_h) is =
+pub one-heading : (g h : Heading) (x y : List ℕ) → IsHeading g → IsHeading h → header_of g ++ x ≡ header_of h ++ y → (g ≡ h) × (x ≡ y)
+one-heading g h x y fits_g fits_h is =
+    let bytes = header_of g ++ x in
     let tail = text_of (tail_lines g.settings g.inputs) ++ x in
     let all = (codes "name " ++ g.settings.name) ∷ tail_lines g.settings g.inputs in
-    let first : a ++ x ≡ text_of (numbered (codes "hats-journal ") g.version ∷ all) ++ x = ap (λ (l : List ℕ). l ++ x) is_g in
-    let rest = same-name h b y (a ++ x) fits_h is_h is g.version (text_of all ++ x) (omega (arith, fits_g.version), first ∙ line-is (codes "hats-journal ") g.version all x)
-    g.settings.name tail (name-line g.settings.name fits_g.name, append_assoc (codes "name " ++ g.settings.name) (10 ∷ text_of (tail_lines g.settings g.inputs)) x) in
-    let same : x ≡ y = one-tail h.settings g.settings h.inputs g.inputs y x
-    (record { limits = fits_h.limits; count = fits_h.count; sound = fits_h.inputs }) (record { limits = fits_g.limits; count = fits_g.count; sound = fits_g.inputs }) rest.1 in
-    (append_cancel_right a b x (is ∙ ap (λ (l : List ℕ). b ++ l) (sym same)), same)
+    let b1 : Begins FitsWord (numbered (codes "hats-journal ")) 10 bytes g.version (text_of all ++ x) = (omega (arith, fits_g.version), line-is (codes "hats-journal ") g.version all x) in
+    let title = title-is h (header_of h) y bytes fits_h refl is g.version (text_of all ++ x) b1 in
+    let b2 : Begins HasNoNewline (λ line. codes "name " ++ line) 10 (text_of all ++ x) g.settings.name tail =
+    (name-line g.settings.name fits_g.name, append_assoc (codes "name " ++ g.settings.name) (10 ∷ text_of (tail_lines g.settings g.inputs)) x) in
+    let named = same-name h (header_of h) y bytes fits_h refl is g.version (text_of all ++ x) b1 g.settings.name tail b2 in
+    let same = one-tail h.settings g.settings h.inputs g.inputs y x
+    (record { limits = fits_h.limits; count = fits_h.count; sound = fits_h.inputs }) (record { limits = fits_g.limits; count = fits_g.count; sound = fits_g.inputs }) named.1 in (
+      λ k. record {
+        version = title.0 k;
+        settings = record { name = named.0 k; lowest = same.low k; highest = same.high k; threshold = same.most k; margin_order = same.margin k };
+        inputs = same.inputs k;
+      },
+      same.rest,
+    )
+
+pub one-header : (a b x y : List ℕ) → IsHeader a → IsHeader b → a ++ x ≡ b ++ y → (a ≡ b) × (x ≡ y)
+one-header a b x y (g, fits_g, is_g) (h, fits_h, is_h) is =
+    let same = one-heading g h x y fits_g fits_h (ap (λ (l : List ℕ). l ++ x) (sym is_g) ∙ is ∙ ap (λ (l : List ℕ). l ++ y) is_h) in
+    (is_g ∙ ap header_of same.0 ∙ sym is_h, same.1)

@@ -1,10 +1,15 @@
+pub mod AtRest
 mod Bodies
+mod Damage
+mod Differing
 mod Digits
 mod Gates
 mod Headed
+mod Jobs
 mod Lines
 mod Reading
+mod Recorded
 mod Steps
 mod Trimming
-mod Unique
+pub mod Unique
 mod Written

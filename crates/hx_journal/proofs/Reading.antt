@@ -1,7 +1,7 @@
 -- How a journal is read, gate by gate.
 use Rattle.std.proofs.Common.{◌≡◌, ◌≢◌, ◌<◌, ◌+◌, ◌-◌, ◌*◌, ◌∙◌, ◌∷◌, ◌++◌, ℕ, List, [], Some, length, drop, get_or, refl, sym, ap, inr, arith, length-append}
 use Rattle.hx_journal.specs.Headers.{IsHeader}
-use Rattle.hx_journal.specs.Journal.{AreRecords, BeginsByBody, HasNoBody, HasNoGate, IsFirstDamage, Stands, body, front}
+use Rattle.hx_journal.specs.Journal.{AreRecords, BeginsByBody, HasNoBody, IsBroken, IsFirstDamage, Stands, body, front}
 use Rattle.hx_journal.specs.declared.record.Record.{Record}
 use Rattle.hx_journal.proofs.Gates.{front-push, length-front}
 
@@ -9,7 +9,7 @@ module _ (bytes header : List ℕ) (rs : List Record) (rest : List ℕ) (form : 
   pub gate_place : length bytes - length rest ≡ length header + 33 * length rs
   gate_place = omega (arith, ap length form, length-append (front header rs) rest, length-front header rs)
 
-  pub damage : IsHeader header → AreRecords rs → HasNoGate rest → IsFirstDamage bytes (length bytes - length rest)
+  pub damage : IsHeader header → AreRecords rs → IsBroken rs rest → IsFirstDamage bytes (length bytes - length rest)
   damage heading sound broken = inr (record { header = header; heading = heading; records = rs; sound = sound; rest = rest; is = form; at = omega (arith, ap length form, length-append (front header rs) rest); broken = broken })
 
 -- the first gate
@@ -17,13 +17,13 @@ pub first_gate : (rest : List ℕ) → 0 < length rest → rest ≡ get_or rest 
 first_gate [] some = absurd (omega (arith, some))
 first_gate (gate ∷ rest) some = refl
 
-pub no_gate_at : (rest : List ℕ) → length rest ≡ 0 → HasNoGate rest
-no_gate_at [] none = tt
-no_gate_at (gate ∷ rest) none = absurd (omega (arith, none))
+pub no_gate_at : (rs : List Record) (rest : List ℕ) → length rest ≡ 0 → rs ≡ [] → IsBroken rs rest
+no_gate_at rs [] none no_records = no_records
+no_gate_at rs (gate ∷ rest) none no_records = absurd (omega (arith, none))
 
-pub no_body_at : (rest : List ℕ) → 0 < length rest → get_or rest 0 0 ≡ 1 → HasNoBody (drop 1 rest) → HasNoGate rest
-no_body_at [] some opened none = absurd (omega (arith, some))
-no_body_at (gate ∷ rest) some opened none = (opened, none)
+pub no_body_at : (rs : List Record) (rest : List ℕ) → 0 < length rest → get_or rest 0 0 ≡ 1 → HasNoBody (drop 1 rest) → IsBroken rs rest
+no_body_at rs [] some opened none = absurd (omega (arith, some))
+no_body_at rs (gate ∷ rest) some opened none = (opened, none)
 
 pub record_more : (bytes header rest after : List ℕ) (rs : List Record) (r : Record) → bytes ≡ front header rs ++ rest → 0 < length rest → get_or rest 0 0 ≡ 1 → BeginsByBody (drop 1 rest) r after
     → bytes ≡ front header (rs ++ r ∷ []) ++ after

@@ -7,7 +7,7 @@ use Rattle.hx_outside.specs.Disk.{DiskMembers, Passes, IsStable}
 use Rattle.hx_outside.specs.declared.store.StoreError.{StoreError}
 use Rattle.hx_outside.proofs.Runs.{weaker, goes_on}
 use Rattle.hx_outside.proofs.Names.{written_there}
-use Rattle.hx_journal.specs.Journal.{body, front, IsRecord, AreRecords, Stands, IsAtRest, Notes}
+use Rattle.hx_journal.specs.Journal.{body, front, IsRecord, IsReady, AreRecords, Opened, Stands, IsAtRest, Notes}
 use Rattle.hx_journal.specs.declared.record.Record.{Record}
 use Rattle.hx_journal.proofs.Gates.{length-front, front-push, behind, at_gate, gate_set}
 
@@ -80,6 +80,26 @@ module _ (name header : List ℕ) (rs : List Record) (r : Record) (gate : ℕ) (
     is_open at place before after was now =
         (λ k. now k name) ∙ written_there name _ before ∙ ap (option_map (set_at at 1)) was
         ∙ ap (λ (l : List ℕ). Some l) (gate_set (front header rs) gate at 1 (body r ++ 0 ∷ []) (place ∙ sym (length-front header rs)) ∙ sym (front-push header rs r (0 ∷ [])))
+
+-- a store that tells is ready
+pub ready_at : {S T E : Type 0} (d : DiskMembers S) (s : S) (journal : Opened) (rs : List Record) (result : Result T E) → d.tells s → OnOk result (IsAtRest d s journal.file journal.header rs)
+    → OnOk result (IsReady d s (record journal { records = rs }))
+ready_at d s journal rs (Ok x) told rest = record { told = told; rest = rest }
+ready_at d s journal rs (Err e) told rest = tt
+
+-- no call
+pub not_noted : {S : Type 0} (d : DiskMembers S) (s : S) (name header : List ℕ) (rs : List Record) (r : Record) → d.tells s → IsAtRest d s name header rs → Passes d s s (Notes name header rs r)
+not_noted d s name header rs r tells rest = record {
+  told = tells;
+  later = omega arith;
+  keeps = λ t f le left. left;
+  leaves = λ t f le left. inl left;
+  each = λ f left. (f, d.only_now s f left, same f (d.only_now s f left));
+  seen = same (d.reads s) (d.reads_now s tells);
+}
+  where
+    same : (f : Folder) → d.may_leave s f → Notes name header rs r f f
+    same f now = record { others = λ n apart. refl; there = inl (record { gate = rest.gate; rest = []; closed = rest.closed; sound = rest.sound; is = rest.each f now }) }
 
 pub at_rest : {S T : Type 0} (d : DiskMembers S) (s : S) (name header : List ℕ) (rs : List Record) (result : Result T StoreError) → AreRecords rs → d.reads s name ≡ Some (front header rs ++ (0 ∷ [])) → OnOk result (IsStable d s name) → OnOk result (IsAtRest d s name header rs)
 at_rest d s name header rs (Ok x) sound reads stable = record { gate = 0; closed = omega arith; sound = sound; each = λ f now. stable f now ∙ reads }

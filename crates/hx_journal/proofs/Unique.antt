@@ -42,6 +42,9 @@ abbrev unwrapped : Option (List ℕ) → List ℕ
 unwrapped None = []
 unwrapped (Some l) = l
 
+pub some-same : (a b : List ℕ) → Some a ≡ Some b → a ≡ b
+some-same a b e = ap unwrapped e
+
 pub one_list : (header : List ℕ) (rs ss : List Record) (file : Option (List ℕ)) → Stands header rs file → Stands header ss file → rs ≡ ss
 one_list header rs ss file a b =
     let both : front header rs ++ (a.gate ∷ a.rest) ≡ front header ss ++ (b.gate ∷ b.rest) = ap unwrapped (sym a.is ∙ b.is) in

@@ -1,7 +1,7 @@
 -- Headers as they are written, line by line.
-use Rattle.std.proofs.Common.{◌≡◌, ◌≤◌, ◌<◌, ◌∙◌, ◌++◌, ◌∷◌, [], suc, zero, ℕ, List, map, length, take, get_or, codes, refl, sym, ap, arith, append_assoc}
+use Rattle.std.proofs.Common.{◌≡◌, ◌≤◌, ◌<◌, ◌∙◌, ◌++◌, ◌∷◌, [], suc, zero, ℕ, List, map, length, take, get_or, codes, refl, sym, ap, subst, arith, append_assoc}
 use Rattle.std.proofs.lemmas.List.{take_all}
-use Rattle.hx_journal.specs.Headers.{Listed, input_line, input_lines, listed, text_of}
+use Rattle.hx_journal.specs.Headers.{AreListed, IsListed, Listed, input_line, input_lines, listed, text_of}
 
 pub text-append : (xs ys : List (List ℕ)) → text_of (xs ++ ys) ≡ text_of xs ++ text_of ys
 text-append [] ys = refl
@@ -40,6 +40,17 @@ input-written start old new lens words none i within same was is =
 
 pub all-written : (lens : List ℕ) (words : List (List ℕ)) (n : ℕ) → length lens ≤ n → length words ≡ length lens → take n (map input_line (listed lens words)) ≡ map input_line (listed lens words)
 all-written lens words n all same = take_all n (map input_line (listed lens words)) (omega (arith, all, length-lines (listed lens words), length-listed lens words same))
+
+-- one input more
+pub input-sound : (lens : List ℕ) (words : List (List ℕ)) (none : List ℕ) (i : ℕ) → i < length lens → length words ≡ length lens → AreListed (take i (listed lens words))
+    → IsListed (record { len = get_or lens i 0; word = get_or words i none }) → AreListed (take (suc i) (listed lens words))
+input-sound [] words none i within same all one = absurd (omega (arith, within))
+input-sound (len ∷ lens) [] none i within same all one = absurd (omega (arith, same))
+input-sound (len ∷ lens) (word ∷ words) none zero within same all one = (one, tt)
+input-sound (len ∷ lens) (word ∷ words) none (suc i) within same all one = (all.0, input-sound lens words none i (omega (arith, within)) (omega (arith, same)) all.1 one)
+
+pub all-sound : (lens : List ℕ) (words : List (List ℕ)) (n : ℕ) → length lens ≤ n → length words ≡ length lens → AreListed (take n (listed lens words)) → AreListed (listed lens words)
+all-sound lens words n all same sound = subst AreListed (take_all n (listed lens words) (omega (arith, all, length-listed lens words same))) sound
 
 -- the first lines, those of the inputs and the end
 pub all-lines : (head : List (List ℕ)) (inputs : List Listed) (first second third : List ℕ) → first ≡ text_of head → second ≡ first ++ text_of (map input_line inputs) → third ≡ second ++ codes "end\n" → third ≡ text_of (head ++ input_lines inputs)

@@ -1,5 +1,5 @@
 -- What a journal's file stands for, and what the calls on it make of a folder.
-use Rattle.std.specs.Prelude.{◌≡◌, ◌≢◌, ◌≤◌, ◌<◌, ◌^◌, ◌⊎◌, ◌∷◌, ◌++◌, ⊤, ℕ, List, [], Option, Some, codes, get_or, length, replicate}
+use Rattle.std.specs.Prelude.{◌≡◌, ◌≢◌, ◌≤◌, ◌<◌, ◌^◌, ◌+◌, ◌*◌, ◌⊎◌, ◌∷◌, ◌++◌, ⊤, ℕ, List, [], Option, Some, codes, get_or, length, replicate}
 use Rattle.std.specs.Int.{w32, w64, from_le_bytes, to_le_bytes}
 use Rattle.hx_outside.specs.Folders.{Folder, SameBut}
 use Rattle.hx_outside.specs.Disk.{DiskMembers}
@@ -45,14 +45,19 @@ pub record Stands (header : List ℕ) (rs : List Record) (file : Option (List �
   pub sound : AreRecords rs
   pub is : file ≡ Some (front header rs ++ (gate ∷ rest))
 
+-- bytes that are a journal
+abbrev pub IsJournal : List ℕ → Type 0
+IsJournal bytes = (header : List ℕ) × (rs : List Record) × IsHeader header × Stands header rs (Some bytes)
+
 -- behind a gate there is no body, or no gate behind that
 abbrev pub HasNoBody : List ℕ → Type 0
 HasNoBody rest = (r : Record) (next : ℕ) (more : List ℕ) → IsRecord r → rest ≢ body r ++ (next ∷ more)
 
--- where a gate should stand there is none, or an open one without a body and a gate behind
-abbrev pub HasNoGate : List ℕ → Type 0
-HasNoGate [] = ⊤
-HasNoGate (gate ∷ rest) = (gate ≡ 1) × HasNoBody rest
+-- What stands behind these records is damaged: there is no gate right behind the header, or the gate is open, and there
+-- is no body and gate behind it. So a record has a gate behind it, and the first of two damaged gates is told.
+abbrev pub IsBroken : List Record → List ℕ → Type 0
+IsBroken records [] = records ≡ []
+IsBroken records (gate ∷ rest) = (gate ≡ 1) × HasNoBody rest
 
 -- the bytes begin with no header
 abbrev pub HasNoHeader : List ℕ → Type 0
@@ -67,7 +72,7 @@ pub record IsDamagedAt (bytes : List ℕ) (place : ℕ) : Type 0 where
   pub rest : List ℕ
   pub is : bytes ≡ front header records ++ rest
   pub at : place ≡ length (front header records)
-  pub broken : HasNoGate rest
+  pub broken : IsBroken records rest
 
 -- the first damaged place: 0 where no header stands, else that of a gate
 abbrev pub IsFirstDamage : List ℕ → ℕ → Type 0
@@ -80,7 +85,7 @@ pub record IsAtRest {S : Type 0} (d : DiskMembers S) (s : S) (name header : List
   pub sound : AreRecords rs
   pub each : (f : Folder) → d.may_leave s f → f name ≡ Some (front header rs ++ (gate ∷ []))
 
--- Only the journal changes: it has the records, or these and one more.
+-- Only the journal changes: it has the records from before, or these and the new one.
 pub record Notes (name header : List ℕ) (rs : List Record) (r : Record) (f g : Folder) : Type 0 where
   pub others : SameBut name f g
   pub there : Stands header rs (g name) ⊎ Stands header (rs ++ r ∷ []) (g name)
@@ -109,6 +114,17 @@ pub record Opened : Type 0 where
   pub header : List ℕ
   pub records : List Record
 
+-- a store tells, and has an open journal at rest
+pub record IsReady {S : Type 0} (d : DiskMembers S) (s : S) (journal : Opened) : Type 0 where
+  pub told : d.tells s
+  pub rest : IsAtRest d s journal.file journal.header journal.records
+
+-- what an open journal keeps: a header, records, and the place of the closed gate behind them
+pub record IsSound (gate : ℕ) (header : List ℕ) (records : List Record) : Type 0 where
+  pub heading : IsHeader header
+  pub entries : AreRecords records
+  pub place : gate ≡ length header + 33 * length records
+
 -- the files of a catalogue's journal
 abbrev pub journal_file : List ℕ → List ℕ
 journal_file name = name ++ codes ".work/" ++ codes "journal"
@@ -134,11 +150,3 @@ BeginsByBody bytes r after = IsRecord r × (0 < length after) × (bytes ≡ body
 -- a header, and what follows it
 abbrev pub BeginsByHeader : List ℕ → List ℕ → Type 0
 BeginsByHeader bytes after = (header : List ℕ) × IsHeader header × (bytes ≡ header ++ after)
-
--- No header is the front of another: what two headers begin is one header and one rest.
-abbrev pub BeginsOneHeader : Type 0
-BeginsOneHeader = (a b x y : List ℕ) → IsHeader a → IsHeader b → a ++ x ≡ b ++ y → (a ≡ b) × (x ≡ y)
-
--- A file stands for one header and one list of records.
-abbrev pub StandsForOneJournal : Type 0
-StandsForOneJournal = (a b : List ℕ) (rs ss : List Record) (file : Option (List ℕ)) → IsHeader a → IsHeader b → Stands a rs file → Stands b ss file → (a ≡ b) × (rs ≡ ss)

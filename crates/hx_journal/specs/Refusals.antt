@@ -18,6 +18,13 @@ IsRefusedFor file (refusal.Damaged place) = (bytes : List ℕ) × (file ≡ Some
 IsRefusedFor file refusal.StoreFault = ⊤
 IsRefusedFor file refusal.Memory = ⊤
 
+-- a fault of the store, or want of memory
+abbrev pub IsFault : JournalRefusal → Type 0
+IsFault refusal.Absent = ⊥
+IsFault (refusal.Damaged place) = ⊥
+IsFault refusal.StoreFault = ⊤
+IsFault refusal.Memory = ⊤
+
 -- why bytes aren't read as a journal
 abbrev pub IsUnread : List ℕ → JournalRefusal → Type 0
 IsUnread bytes refusal.Absent = ⊥

@@ -1,7 +1,10 @@
 //! The text of a header.
 ghost use Rattle.std.specs.Prelude.{◌≡◌, ◌++◌, ◌∷◌, [], IfOk, OnOk, codes, length, map};
 ghost use Rattle.std.specs.Fmt.{decimal};
-ghost use Rattle.hx_journal.specs.Headers.{head_lines, header_of, heading_of, input_line, listed, text_of, written_version};
+ghost use Rattle.std.specs.Str.{IsUtf8};
+ghost use Rattle.hx_base.specs.Limits.{FitsLimits};
+ghost use Rattle.hx_base.specs.Names.{IsName};
+ghost use Rattle.hx_journal.specs.Headers.{AreListed, IsHeader, IsHeading, head_lines, header_of, heading_of, input_line, listed, text_of, written_version};
 
 use hx_base::{FileWord, Settings};
 use itoa::Buffer;
@@ -35,7 +38,8 @@ fn push_name_line(text: &mut Vec<u8>, name: &str) -> Result<(), AllocError>
 }
 
 fn push_input_line(text: &mut Vec<u8>, len: u64, word: &str) -> Result<(), AllocError>
-    ensures { OnOk result (text.new.items ≡ text.old.items ++ input_line (record { len = len; word = word.now }) ++ 10 ∷ []) }
+    ensures line { OnOk result (text.new.items ≡ text.old.items ++ input_line (record { len = len; word = word.now }) ++ 10 ∷ []) }
+    ensures utf8 { OnOk result (IsUtf8 word.now) }
 {
     let mut buffer = Buffer::new();
     text.extend_from_slice(b"input ")?;
@@ -53,7 +57,8 @@ fn head_text(
     count: u64,
     room: usize,
 ) -> Result<Vec<u8>, AllocError>
-    ensures { IfOk result (λ text. text.items ≡ text_of (head_lines written_version settings.now count)) }
+    ensures lines { IfOk result (λ text. text.items ≡ text_of (head_lines written_version settings.now count)) }
+    ensures name { IfOk result (λ _. IsName settings.now.name) }
 {
     let mut text = Vec::with_capacity(alloc, room)?;
     push_number_line(&mut text, b"hats-journal ", VERSION)?;
@@ -72,7 +77,8 @@ fn head_text(
 
 fn push_input_lines(text: &mut Vec<u8>, words: &[FileWord], lens: &[u64]) -> Result<(), AllocError>
     requires { length words.now ≡ length lens.now }
-    ensures { OnOk result (text.new.items ≡ text.old.items ++ text_of (map input_line (listed lens.now words.now))) }
+    ensures lines { OnOk result (text.new.items ≡ text.old.items ++ text_of (map input_line (listed lens.now words.now))) }
+    ensures inputs { OnOk result (AreListed (listed lens.now words.now)) }
 {
     for i in 0..lens.len() {
         push_input_line(text, lens[i], words[i].as_str())?;
@@ -81,7 +87,7 @@ fn push_input_lines(text: &mut Vec<u8>, words: &[FileWord], lens: &[u64]) -> Res
 }
 
 /// The header of an import's journal: its settings, and its inputs by their file words and their lengths in bytes. Two
-/// jobs have one header exactly where these are the same.
+/// jobs have one header exactly where these are the same. Where the settings fit it is a header that `open` reads.
 pub fn header_text(
     alloc: Global,
     settings: &Settings,
@@ -89,7 +95,8 @@ pub fn header_text(
     lens: &[u64],
 ) -> Result<Vec<u8>, AllocError>
     requires { length words.now ≡ length lens.now }
-    ensures { IfOk result (λ text. text.items ≡ header_of (heading_of settings.now lens.now words.now)) }
+    ensures text { IfOk result (λ text. text.items ≡ header_of (heading_of settings.now lens.now words.now)) }
+    ensures heading { FitsLimits settings.now → IfOk result (λ text. IsHeading (heading_of settings.now lens.now words.now) × IsHeader text.items) }
 {
     let room = lens
         .len()

@@ -1,5 +1,5 @@
 //! Reading a header.
-ghost use Rattle.std.specs.Prelude.{◌≡◌, ◌↔◌, IfOk, IsTrue, MatchOption};
+ghost use Rattle.std.specs.Prelude.{◌≡◌, ◌↔◌, IsTrue, MatchOption};
 ghost use Rattle.std.specs.Str.{IsUtf8};
 ghost use Rattle.hx_base.specs.FileWords.{IsFileWord};
 ghost use Rattle.hx_base.specs.Limits.{FitsLimits};
@@ -9,8 +9,7 @@ ghost use Rattle.hx_journal.specs.Headers.{BeginsByInputs, BeginsByTail, HasNoIn
 ghost use Rattle.hx_journal.specs.Journal.{BeginsByHeader, HasNoHeader};
 
 use crate::fronts::{behind, number_line, number_until, until_newline, value_line};
-use hx_base::{HIGHEST_MARGIN_ORDER, HIGHEST_ORDER, MOST_IN_PARTITION, Name, is_file_word};
-use std::alloc::{AllocError, Global};
+use hx_base::{HIGHEST_MARGIN_ORDER, HIGHEST_ORDER, MOST_IN_PARTITION, is_file_word};
 
 // The highest version that is read.
 const HIGHEST_VERSION: u64 = 1;
@@ -24,13 +23,13 @@ fn is_word(value: &[u8]) -> bool
     is_file_word(text)
 }
 
-fn is_name(alloc: Global, value: &[u8]) -> Result<bool, AllocError>
-    ensures { IfOk result (λ is. IsTrue is ↔ IsName value.now) }
+fn is_name(value: &[u8]) -> bool
+    ensures { IsTrue result ↔ IsName value.now }
 {
     let Ok(text) = str::from_utf8(value) else {
-        return Ok(false);
+        return false;
     };
-    Ok(Name::new(alloc, text)?.is_some())
+    hx_base::is_name(text)
 }
 
 // What follows the line of an input.
@@ -87,20 +86,16 @@ fn behind_tail(text: &[u8]) -> Option<&[u8]>
 }
 
 /// What follows the header at the front of some bytes, if one stands there.
-pub(crate) fn behind_header(alloc: Global, bytes: &[u8]) -> Result<Option<&[u8]>, AllocError>
-    ensures { IfOk result (λ found. MatchOption found (HasNoHeader bytes.now) (λ after. BeginsByHeader bytes.now after.now)) }
+pub(crate) fn behind_header(bytes: &[u8]) -> Option<&[u8]>
+    ensures { MatchOption result (HasNoHeader bytes.now) (λ after. BeginsByHeader bytes.now after.now) }
 {
-    let Some((version, rest)) = number_line(bytes, b"hats-journal ") else {
-        return Ok(None);
-    };
+    let (version, rest) = number_line(bytes, b"hats-journal ")?;
     if version > HIGHEST_VERSION {
-        return Ok(None);
+        return None;
     }
-    let Some((name, rest)) = value_line(rest, b"name ") else {
-        return Ok(None);
-    };
-    if !is_name(alloc, name)? {
-        return Ok(None);
+    let (name, rest) = value_line(rest, b"name ")?;
+    if !is_name(name) {
+        return None;
     }
-    Ok(behind_tail(rest))
+    behind_tail(rest)
 }

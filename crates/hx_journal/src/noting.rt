@@ -2,7 +2,8 @@
 ghost use Rattle.std.specs.Prelude.{◌≡◌, ◌+◌, ◌*◌, ◌++◌, ◌∷◌, [], OnOk, length};
 ghost use Rattle.hx_outside.specs.Disk.{Passes};
 ghost use Rattle.hx_outside.specs.Faults.{HasStoreCause};
-ghost use Rattle.hx_journal.specs.Journal.{IsAtRest, IsEntry, IsRecord, Notes, body};
+ghost use Rattle.hx_journal.specs.Headers.{IsHeader};
+ghost use Rattle.hx_journal.specs.Journal.{AreRecords, IsAtRest, IsEntry, IsReady, IsRecord, Notes, body};
 
 use crate::Record;
 use hx_outside::{Store, StoreError};
@@ -27,43 +28,44 @@ pub struct Journal {
 }
 
 impl Model for Journal {
-    ghost use Rattle.std.specs.Prelude.{◌≡◌, ◌+◌, ◌*◌, length, string_bytes};
+    ghost use Rattle.std.specs.Prelude.{string_bytes};
     ghost use Rattle.hx_journal.specs.Journal as Specs;
 
     ghost Value = { Specs.Opened };
 
     ghost view = { λ journal. record { file = string_bytes journal.file; header = journal.header.items; records = journal.records.items } };
 
-    ghost invariant = { λ journal. journal.gate ≡ length journal.header.items + 33 * length journal.records.items };
+    ghost invariant = { λ journal. Specs.IsSound journal.gate journal.header.items journal.records.items };
 }
 
 impl Journal {
     /// The bytes of its header.
     pub fn header(&self) -> &[u8]
-        ensures { result.now ≡ self.now.header }
+        ensures bytes { result.now ≡ self.now.header }
+        ensures heading { IsHeader self.now.header }
     {
         &self.header
     }
 
     /// Its records, in the order in which they were noted.
     pub fn records(&self) -> &[Record]
-        ensures { result.now ≡ self.now.records }
+        ensures items { result.now ≡ self.now.records }
+        ensures entries { AreRecords self.now.records }
     {
         &self.records
     }
 
-    /// Adds a record. At each moment a crash leaves the records before, or these and the new one, and changes no
-    /// other file. After `Ok` each crash leaves the new one too. After an error the journal is spent, and is to be
-    /// opened again.
+    /// Adds a record, of a kind from 1 to 8, and with no rows for lists and properties. After an error the journal is
+    /// spent, and is to be opened again. `Failed` comes only where the store's count of faults rose.
     ///
-    /// The record has a kind from 1 to 8, and no rows for lists and properties. Over a store that tells, each folder
-    /// that a crash may leave has the journal as this one was left: the header, the records, and a closed gate with
-    /// nothing behind it.
+    /// Over a store that tells, and has the journal as this one was left (each folder that a crash may leave has the
+    /// header, the records, and a closed gate with nothing behind it): at each moment a crash leaves the records before,
+    /// or these and the new one, and changes no other file. After `Ok` each crash leaves the new one too, and the store is
+    /// as the next note asks.
     pub fn note<S: Store>(&mut self, store: &mut S, entry: Record) -> Result<(), StoreError>
-        requires entry { IsEntry entry }
-        requires rest { S.disk.tells store.old → IsAtRest S.disk store.old self.old.file self.old.header self.old.records }
-        ensures passes { S.disk.tells store.old → Passes S.disk store.old store.new (Notes self.old.file self.old.header self.old.records entry) }
-        ensures done { S.disk.tells store.old → OnOk result (IsAtRest S.disk store.new self.old.file self.old.header (self.old.records ++ entry ∷ [])) }
+        requires { IsEntry entry }
+        ensures passes { IsReady S.disk store.old self.old → Passes S.disk store.old store.new (Notes self.old.file self.old.header self.old.records entry) }
+        ensures done { IsReady S.disk store.old self.old → OnOk result (IsReady S.disk store.new (record self.old { records = self.old.records ++ entry ∷ [] })) }
         ensures kept { OnOk result (self.new ≡ record self.old { records = self.old.records ++ entry ∷ [] }) }
         ensures cause { HasStoreCause S.disk.faults store.old store.new result }
     {

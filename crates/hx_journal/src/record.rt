@@ -1,5 +1,5 @@
 //! Records and their bytes.
-ghost use Rattle.std.specs.Prelude.{◌≡◌, ◌≤◌, ◌++◌, ◌↔◌, IfOk, IsTrue, MatchOption, OnOk, length};
+ghost use Rattle.std.specs.Prelude.{◌≡◌, ◌≢◌, ◌≤◌, ◌++◌, ◌↔◌, ℕ, List, IsTrue, MatchOption, OnOk, length};
 ghost use Rattle.hx_journal.specs.Journal.{BeginsByBody, HasNoBody, IsEntry, body, candidate};
 
 use crate::fronts::behind;
@@ -71,34 +71,29 @@ fn candidate(bytes: &[u8]) -> Record
     }
 }
 
-/// The record whose body stands at the front of some bytes, and what follows it, at least a gate. The buffer is one of
-/// the caller's, so that not each record takes memory.
-pub(crate) fn record_at<'a>(
-    bytes: &'a [u8],
-    buffer: &mut Vec<u8>,
-) -> Result<Option<(Record, &'a [u8])>, AllocError>
-    ensures { IfOk result (λ found. MatchOption found (HasNoBody bytes.now) (λ read. BeginsByBody bytes.now read.0 read.1.now)) }
+// What follows a record's 32 bytes at the front of others.
+fn behind_bytes<'a>(bytes: &'a [u8], entry: &Record) -> Option<&'a [u8]>
+    ensures { MatchOption result ((rest : List ℕ) → bytes.now ≢ body entry.now ++ rest) (λ rest. bytes.now ≡ body entry.now ++ rest.now) }
+{
+    let kind = behind(bytes, &[entry.task.kind])?;
+    let number = behind(kind, &entry.task.number.to_le_bytes())?;
+    let len = behind(number, &entry.len.to_le_bytes())?;
+    let rows = behind(len, &entry.rows.to_le_bytes())?;
+    behind(rows, &[0; 11])
+}
+
+/// The record whose body stands at the front of some bytes, and what follows it, at least a gate.
+pub(crate) fn record_at(bytes: &[u8]) -> Option<(Record, &[u8])>
+    ensures { MatchOption result (HasNoBody bytes.now) (λ read. BeginsByBody bytes.now read.0 read.1.now) }
 {
     if bytes.len() <= BODY {
-        return Ok(None);
+        return None;
     }
     let entry = candidate(bytes);
     if !entry.is_entry() {
-        return Ok(None);
+        return None;
     }
-    buffer.clear();
-    entry.push_body(buffer)?;
-    Ok(behind_body(bytes, buffer, entry))
-}
-
-// The same, where its bytes are in the buffer.
-fn behind_body<'a>(bytes: &'a [u8], buffer: &[u8], entry: Record) -> Option<(Record, &'a [u8])>
-    requires bytes { buffer.now ≡ body entry }
-    requires candidate { entry ≡ candidate bytes.now }
-    requires entry { IsEntry entry }
-    ensures { MatchOption result (HasNoBody bytes.now) (λ read. BeginsByBody bytes.now read.0 read.1.now) }
-{
-    let after = behind(bytes, buffer)?;
+    let after = behind_bytes(bytes, &entry)?;
     if after.is_empty() {
         return None;
     }

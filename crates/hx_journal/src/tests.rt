@@ -1,7 +1,11 @@
 //! Journals byte by byte, damaged ones, and crashes within notes.
+ghost use Rattle.std.specs.Prelude.{◌≤◌, IfOk};
+ghost use Rattle.hx_journal.specs.Headers.{IsHeader};
 ghost use Rattle.hx_journal.specs.Journal.{IsEntry};
 
-use crate::{JournalRefusal, Record, create, header_text, open};
+use crate::{
+    Difference, JournalRefusal, Record, create, header_difference, header_text, open, record_task,
+};
 use hx_base::{FileWord, Name, Settings, Task};
 use hx_mem::MemStore;
 use std::alloc::Global;
@@ -55,19 +59,49 @@ fn holds(store: &MemStore, name: &str, bytes: &[u8]) -> bool {
     }
 }
 
-#[test]
-fn text_of_a_header(rt: HostRuntime) -> Result<(), Fail> {
+// The header of a job with that threshold.
+fn header_with(alloc: Global, threshold: u64) -> Result<Vec<u8>, Fail>
+    requires { (1 ≤ threshold) × (threshold ≤ 1000000) }
+    ensures { IfOk result (λ text. IsHeader text.items) }
+{
     let settings = Settings {
-        name: name_of(rt.alloc())?,
+        name: name_of(alloc)?,
         lowest: 0,
         highest: 1,
-        threshold: 2,
+        threshold,
         margin_order: 10,
     };
-    let mut words = Vec::new(rt.alloc());
-    words.push(FileWord::new(rt.alloc(), "a.csv")?.ok_or("no word")?)?;
-    let text = header_text(rt.alloc(), &settings, &words, &[40])?;
+    let mut words = Vec::new(alloc);
+    words.push(FileWord::new(alloc, "a.csv")?.ok_or("no word")?)?;
+    let text = header_text(alloc, &settings, &words, &[40])?;
+    Ok(text)
+}
+
+#[test]
+fn text_of_a_header(rt: HostRuntime) -> Result<(), Fail> {
+    let text = header_with(rt.alloc(), 2)?;
     assert_eq!(rt; text.as_slice(), HEADER);
+    Ok(())
+}
+
+#[test]
+fn headers_of_two_jobs(rt: HostRuntime) -> Result<(), Fail> {
+    let kept = header_with(rt.alloc(), 2)?;
+    let asked = header_with(rt.alloc(), 3)?;
+    let longer = header_with(rt.alloc(), 20)?;
+    let other = Difference {
+        place: 51,
+        kept: b'2',
+        asked: b'3',
+    };
+    assert_eq!(rt; header_difference(&kept, &asked), Some(other));
+    assert_eq!(rt; header_difference(&kept, &kept), None);
+    let end = Difference {
+        place: 52,
+        kept: b'\n',
+        asked: b'0',
+    };
+    assert_eq!(rt; header_difference(&kept, &longer), Some(end));
     Ok(())
 }
 
@@ -112,23 +146,89 @@ fn opened_and_noted(
     Ok(count)
 }
 
+// Opens the journal and notes three records, and tells how many of them were noted before a fault.
+fn three_noted(alloc: Global, store: &mut MemStore) -> Result<usize, Fail> {
+    let name = name_of(alloc)?;
+    let Ok(mut journal) = open(alloc, store, &name) else {
+        return Ok(0);
+    };
+    if journal.note(store, map_record(0)).is_err() {
+        return Ok(0);
+    }
+    if journal.note(store, map_record(1)).is_err() {
+        return Ok(1);
+    }
+    if journal.note(store, map_record(2)).is_err() {
+        return Ok(2);
+    }
+    Ok(3)
+}
+
 #[test]
-fn each_crash_within_a_note(rt: HostRuntime) -> Result<(), Fail> {
-    let three = joined(
-        rt.alloc(),
-        &[HEADER, &[1], BODY, &[1], BODY, &[1], BODY, &[0]],
-    )?;
-    // Opening makes five calls, and a note four.
-    for stop in 0..10 {
+fn each_crash_within_three_notes(rt: HostRuntime) -> Result<(), Fail> {
+    let new = joined(rt.alloc(), &[HEADER, &[0]])?;
+    // Opening makes five calls, and each note four.
+    for stop in 0..18 {
         for choice in 0..16 {
             let mut store = MemStore::new(rt.alloc());
-            store.put(FILE, &three)?;
+            store.put(FILE, &new)?;
             store.stop_after(stop);
-            let done = opened_and_noted(rt.alloc(), &mut store, 3).is_ok();
+            let done = three_noted(rt.alloc(), &mut store)?;
+            let calls = (stop as usize).saturating_sub(5);
+            assert_eq!(rt; done, calls / 4, "stopped after {stop}");
             let mut left = store.reboot(choice)?;
-            let again = opened_and_noted(rt.alloc(), &mut left, 4);
-            let three_or_four = again == Ok(3) && !done || again == Ok(4);
-            assert!(rt; three_or_four, "stopped after {stop}, choice {choice}");
+            let again = opened_and_noted(rt.alloc(), &mut left, 3);
+            let next = again == Ok(done) || done < 3 && again == Ok(done.saturating_add(1));
+            assert!(rt; next, "stopped after {stop}, choice {choice}");
+        }
+    }
+    Ok(())
+}
+
+const TASK_FILE: &str = "t.work/map-0";
+
+// Opens the journal and records the first task, whose file has some bytes.
+fn opened_and_recorded(alloc: Global, store: &mut MemStore) -> Result<bool, Fail> {
+    let name = name_of(alloc)?;
+    let Ok(mut journal) = open(alloc, store, &name) else {
+        return Ok(false);
+    };
+    let tmp = "t.work/tmp";
+    let recorded = record_task(
+        &mut journal,
+        store,
+        tmp,
+        TASK_FILE,
+        b"forty bytes",
+        map_record(0),
+    );
+    Ok(recorded.is_ok())
+}
+
+#[test]
+fn each_crash_within_a_task(rt: HostRuntime) -> Result<(), Fail> {
+    let name = name_of(rt.alloc())?;
+    let new = joined(rt.alloc(), &[HEADER, &[0]])?;
+    // Opening makes five calls, and publishing and noting four each.
+    for stop in 0..14 {
+        for choice in 0..16 {
+            let mut store = MemStore::new(rt.alloc());
+            store.put(FILE, &new)?;
+            store.stop_after(stop);
+            let done = opened_and_recorded(rt.alloc(), &mut store)?;
+            assert_eq!(rt; done, stop == 13, "stopped after {stop}");
+            let mut left = store.reboot(choice)?;
+            let Ok(journal) = open(rt.alloc(), &mut left, &name) else {
+                return Err(Fail::from("not opened"));
+            };
+            let whole = holds(&left, TASK_FILE, b"forty bytes");
+            let recorded = !journal.records().is_empty();
+            assert!(rt;
+                whole || !recorded && !done,
+                "stopped after {stop}, choice {choice}"
+            );
+            assert!(rt; whole || left.file(TASK_FILE).is_none());
+            assert!(rt; recorded || !done, "stopped after {stop}, choice {choice}");
         }
     }
     Ok(())

@@ -10,8 +10,8 @@ use std::alloc::Global;
 // How many bytes are asked for at once.
 const STEP: usize = 4096;
 
-/// All bytes of a file, None where it is absent. No file changes. `Failed` comes only where the store's count of
-/// faults rose.
+/// All bytes of a file, None where it is absent. Room for them is taken once, at the length that the store gives. No
+/// file changes. `Failed` comes only where the store's count of faults rose.
 pub fn read_file<S: Store>(
     alloc: Global,
     store: &mut S,
@@ -24,7 +24,7 @@ pub fn read_file<S: Store>(
     let Some(len) = store.len(name)? else {
         return Ok(None);
     };
-    let mut bytes = Vec::new(alloc);
+    let mut bytes = Vec::with_capacity(alloc, len as usize)?;
     let mut buf = [0u8; STEP];
     let mut at = 0;
     while at < len {

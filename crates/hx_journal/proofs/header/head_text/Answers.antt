@@ -3,8 +3,8 @@ use Rattle.hx_journal.specs.Headers.{head_lines, written_version}
 use Rattle.hx_journal.proofs.Written.{line-written}
 use Rattle.hx_journal.proofs.header.head_text.Goals as goal
 
-pub returns : goal.returns
-returns c =
+pub returns-clause-lines : goal.returns-clause-lines
+returns-clause-lines c =
     let lines = head_lines written_version c.args.settings.now c.args.count in
     let written1 = line-written [] (get_or lines 0 []) c.in_ok-text.text.items c.push_number_line.new.text.items c.in_ok-text.ensures.items c.in_ok-push_number_line.ensures in
     let written2 = line-written (take 1 lines) (get_or lines 1 []) c.push_number_line.new.text.items c.push_name_line.new.text.items written1 (rw c.as_str.ensures.bytes at c.in_ok-push_name_line.ensures) in

@@ -63,5 +63,5 @@ returns c =
     let end = c.in_ok-end.ensures in
     let limits : FitsLimits (settings_of a.lowest b.highest t.threshold m.margin_order) = search (rules, c.if-not-fit.ensures.0) in
     told-as c.behind.result _ _ _ _ c.behind.ensures
-    (λ none s xs r fits is. none r (some-end s xs r c.args.text.now fits is a.lowest a.rest.now a.ensures b.highest b.rest.now b.ensures t.threshold t.rest.now t.ensures m.margin_order m.rest.now m.ensures n.count n.rest.now n.ensures c.in_ok-end.end.now end.0 end.1 end.2))
+    (λ none s xs r fits is. none r (some-end s xs r c.args.text.now fits is a.lowest a.rest.now a.ensures b.highest b.rest.now b.ensures t.threshold t.rest.now t.ensures m.margin_order m.rest.now m.ensures n.count n.rest.now n.ensures c.in_ok-end.end.now end.0 end.1 end.2).1)
     (λ after at. tail-read c.args.text.now a.rest.now b.rest.now t.rest.now m.rest.now n.rest.now c.in_ok-end.end.now after.now a.lowest b.highest t.threshold m.margin_order n.count end.0 a.ensures b.ensures t.ensures m.ensures n.ensures limits end.1 end.2 at)
