@@ -9,3 +9,9 @@ pub mod Order
 pub mod Runs
 pub mod SplitRows
 pub mod Told
+pub mod Counted
+pub mod Gathered
+pub mod One
+pub mod Alone
+pub mod Aligned
+pub mod HeadRows

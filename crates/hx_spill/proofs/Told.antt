@@ -18,7 +18,7 @@ use Rattle.hx_spill.proofs.SliceRows.{each_stands}
 use Rattle.hx_spill.proofs.Slices.{slice_found, slice_none}
 
 -- a number that ends within the front is read from it alone
-number_front : (w : ℕ) (keeps : ℕ → Bool) (place : ℕ) (front rest : List ℕ) → place + w ≤ length front → number w keeps place (front ++ rest) ≡ number w keeps place front
+pub number_front : (w : ℕ) (keeps : ℕ → Bool) (place : ℕ) (front rest : List ℕ) → place + w ≤ length front → number w keeps place (front ++ rest) ≡ number w keeps place front
 number_front w keeps place front rest within =
     let there : nat_lt (length front) (place + w) ≡ false = le-ltb _ _ within in
     let also : nat_lt (length (front ++ rest)) (place + w) ≡ false = le-ltb _ _ (omega (arith, within, length-append front rest)) in
@@ -47,7 +47,7 @@ each_front (suc i) n front rest entries within read =
     let same = entry_front (λ part. list_all (λ other. nat_lt other.part part) before.0) n (rows_of before.0) (place_of_entry (length before.0)) front rest (omega (arith, number, within)) in
     rw (again, sym same ∙ next.1) next.2
 
-head_front : (front rest : List ℕ) (entries : List Entry) → length front ≡ place_of_entry (length entries) → head_in (front ++ rest) ≡ Ok entries → head_in front ≡ Ok entries
+pub head_front : (front rest : List ℕ) (entries : List Entry) → length front ≡ place_of_entry (length entries) → head_in (front ++ rest) ≡ Ok entries → head_in front ≡ Ok entries
 unfolding head_in
 head_front front rest entries size read =
     let marked = value-of (mark (codes "HXS1") (front ++ rest)) _ entries read in
@@ -71,7 +71,7 @@ told n bytes entries placed part (Some entry) read head is =
     }
 
 -- what a whole file is made of
-parts : (bytes : List ℕ) (placed : List Placed) → split_in bytes ≡ Ok placed → (entries : List Entry) × (head_in bytes ≡ Ok entries) × (placed_in (length entries) bytes entries ≡ Ok placed)
+pub parts : (bytes : List ℕ) (placed : List Placed) → split_in bytes ≡ Ok placed → (entries : List Entry) × (head_in bytes ≡ Ok entries) × (placed_in (length entries) bytes entries ≡ Ok placed)
 unfolding split_in
 parts bytes placed is =
     let entries = value-of (head_in bytes) _ placed is in
@@ -80,7 +80,7 @@ parts bytes placed is =
     (entries.0, entries.1, read.1 ∙ ends.2)
 
 -- the entries of a head, which stand in the bytes
-entries_in : (bytes : List ℕ) (entries : List Entry) → head_in bytes ≡ Ok entries → each (length entries) (entry_behind (length entries) bytes) ≡ Ok entries
+pub entries_in : (bytes : List ℕ) (entries : List Entry) → head_in bytes ≡ Ok entries → each (length entries) (entry_behind (length entries) bytes) ≡ Ok entries
 unfolding head_in
 entries_in bytes entries is =
     let marked = value-of (mark (codes "HXS1") bytes) _ entries is in
@@ -103,7 +103,7 @@ entry_size keeps n before place bytes entry is =
     let rows = value-of (number 8 (λ k. nat_lt 0 k && nat_lt (place_of_row n (before + k)) (2 ^ 64)) (place + 12) bytes) _ entry first.2 in
     omega (arith, whole_size 8 (place + 12) bytes _ rows.0 rows.1)
 
-entries_within : (i n : ℕ) (bytes : List ℕ) (entries : List Entry) → 12 ≤ length bytes → each i (entry_behind n bytes) ≡ Ok entries → place_of_entry i ≤ length bytes
+pub entries_within : (i n : ℕ) (bytes : List ℕ) (entries : List Entry) → 12 ≤ length bytes → each i (entry_behind n bytes) ≡ Ok entries → place_of_entry i ≤ length bytes
 unfolding each
 entries_within zero n bytes entries long read = long
 entries_within (suc i) n bytes entries long read =
@@ -112,7 +112,7 @@ entries_within (suc i) n bytes entries long read =
     let number = each-length (entry_behind n bytes) i before.0 before.1 in
     omega (arith, number, entry_size _ n (rows_of before.0) (place_of_entry (length before.0)) bytes next.0 next.1)
 
-head_within : (bytes : List ℕ) (entries : List Entry) → head_in bytes ≡ Ok entries → 12 ≤ length bytes
+pub head_within : (bytes : List ℕ) (entries : List Entry) → head_in bytes ≡ Ok entries → 12 ≤ length bytes
 unfolding head_in
 head_within bytes entries is =
     let marked = value-of (mark (codes "HXS1") bytes) _ entries is in

@@ -2,3 +2,5 @@ pub mod Items
 pub mod Maps
 pub mod Plans
 pub mod Splits
+pub mod Values
+pub mod Alone

@@ -42,6 +42,13 @@ map_in bytes = do
   _ ← ended (place_of_pair n) bytes
   kept (total_of pairs == rows) (record { order = order; pairs = pairs }) rows_place
 
+-- how many rows a map's head tells
+unfoldable pub rows_in_head : List ℕ → Read ℕ
+rows_in_head bytes = do
+  _ ← mark (codes "HXM1") bytes
+  _ ← number 4 (λ k. nat_le k 29) 4 bytes
+  number 8 (λ n. nat_le n most_rows) rows_place bytes
+
 -- the bytes of a map
 abbrev pub bytes_of_pair : Pair → List ℕ
 bytes_of_pair pair = little_bytes 8 pair.pixel ++ little_bytes 8 pair.count

@@ -54,6 +54,10 @@ head_in bytes = do
   n ← number 8 (λ _. true) 4 bytes
   each n (entry_behind n bytes)
 
+-- how many rows a head tells
+unfoldable pub rows_in_head : List ℕ → Read ℕ
+rows_in_head bytes = head_in bytes >>= λ entries. Ok (rows_of entries)
+
 -- the entry of a part
 abbrev pub entry_of : ℕ → List Entry → Option Entry
 entry_of part entries = find (λ entry. entry.part == part) entries

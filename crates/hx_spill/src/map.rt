@@ -4,7 +4,7 @@ ghost use Rattle.std.specs.List.{flat_map};
 ghost use Rattle.hx_base.specs.Limits.{most_rows};
 ghost use Rattle.hx_hist.specs.Histograms.{Histogram, total_of};
 ghost use Rattle.hx_spill.specs.Items.{Gives, Refuses, each};
-ghost use Rattle.hx_spill.specs.Maps.{AreCounted, HaveRead, bytes_of_map, bytes_of_pair, map_in, pair_at, pair_behind};
+ghost use Rattle.hx_spill.specs.Maps.{AreCounted, HaveRead, bytes_of_map, bytes_of_pair, map_in, pair_at, pair_behind, rows_in_head};
 ghost use Rattle.hx_hist.specs.declared.hist.Pair.{Pair};
 
 use crate::items::{ended, kept, mark, u32_at, u64_at};
@@ -132,6 +132,25 @@ pub fn read_map(alloc: Global, bytes: &[u8]) -> Result<Hist, SpillRefusal>
             place: ROWS_PLACE as u64,
         }),
     }
+}
+
+#[tactic(auto, unfolding(crate::specs::Maps::rows_in_head))]
+fn rows_told(bytes: &[u8]) -> Result<u64, SpillRefusal>
+    ensures { result ≡ rows_in_head bytes.now }
+{
+    mark(&MARK, bytes)?;
+    let order = u32_at(bytes, 4)?;
+    kept(order <= 29, order, 4)?;
+    let rows = u64_at(bytes, ROWS_PLACE)?;
+    kept(rows <= MOST_ROWS, rows, ROWS_PLACE)
+}
+
+/// How many rows a map counts, as its head tells. It is damaged where its mark, its order or this number is.
+pub fn rows_in_map(bytes: &[u8]) -> Result<u64, SpillRefusal>
+    ensures head { result ≡ rows_in_head bytes.now }
+    ensures whole { (hist : Histogram) → map_in bytes.now ≡ Ok hist → result ≡ Ok (total_of hist.pairs) }
+{
+    rows_told(bytes)
 }
 
 fn total_of(pairs: &[Pair]) -> u64

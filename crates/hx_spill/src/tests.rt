@@ -3,8 +3,8 @@ ghost use Rattle.std.specs.Prelude.{◌↔◌, All, IsTrue};
 ghost use Rattle.hx_base.specs.Rows.{IsGood};
 
 use crate::{
-    Placed, SlicePlace, find_slice, map_bytes, plan_bytes, read_map, read_plan, slice_of,
-    split_bytes,
+    Placed, SlicePlace, find_slice, head_width, map_bytes, plan_bytes, read_map, read_plan,
+    rows_in_map, rows_in_split, rows_of_slice, slice_of, split_bytes,
 };
 use hx_align::{Plan, PlanRow};
 use hx_base::{Pixel, Row, SpillRefusal};
@@ -297,6 +297,28 @@ fn a_split_file_and_its_slices(rt: HostRuntime) -> Result<(), Fail> {
     assert_eq!(rt; find_slice(front(&bytes, 53), 2), damaged(52));
     assert_eq!(rt; find_slice(&bytes, 2), damaged(52));
     assert_eq!(rt; find_slice(&[], 2), damaged(0));
+    Ok(())
+}
+
+#[test]
+fn a_part_is_read_alone(rt: HostRuntime) -> Result<(), Fail> {
+    let alloc = rt.alloc();
+    let bytes = split_file(alloc, &HEAD, &ROWS)?;
+    assert_eq!(rt; head_width(front(&bytes, 12)), Ok(52));
+    assert_eq!(rt; head_width(front(&bytes, 11)), damaged(4));
+    assert_eq!(rt;
+        head_width(b"HXS1\xff\xff\xff\xff\xff\xff\xff\xff"),
+        Ok(u64::MAX)
+    );
+    assert_eq!(rt; rows_in_split(&bytes), Ok(3));
+    assert_eq!(rt; rows_in_map(&file(alloc, b"HXM1", &MAP)?), Ok(6));
+    let place = SlicePlace { at: 52, rows: 2 };
+    let part = bytes.get(52..108).unwrap_or(&[]);
+    let rows = rows_of_slice(alloc, place, part).map_err(|_| "refused")?;
+    let wanted = [row(5, 1, 1_000_000_000, 0), row(5, 2, 1_000_000_000, 0)];
+    assert_eq!(rt; rows.as_slice(), wanted.as_slice());
+    let cut = rows_of_slice(alloc, place, front(part, 55)).err();
+    assert_eq!(rt; cut, Some(SpillRefusal::Damaged { place: 80 }));
     Ok(())
 }
 

@@ -1,0 +1,9 @@
+pub mod Reach
+pub mod Orders
+pub mod Margins
+pub mod Whole
+pub mod Blocks
+pub mod Holders
+pub mod Looking
+pub mod Spans
+pub mod Placing

@@ -1,0 +1,5 @@
+pub mod Around
+pub mod Slices
+pub mod Inner
+pub mod Beside
+pub mod Steps
