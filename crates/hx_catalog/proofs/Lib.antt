@@ -5,3 +5,7 @@ mod Listed
 mod Fielded
 mod Stages
 mod Unbroken
+mod Columned
+mod Loaded
+mod Opened
+mod Whole

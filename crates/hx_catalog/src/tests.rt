@@ -1,2 +1,3 @@
+mod catalogues;
 mod lists;
 mod properties;

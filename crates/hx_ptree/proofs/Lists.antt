@@ -4,10 +4,12 @@ use Rattle.std.proofs.Common.{◌≡◌, ◌+◌, ◌-◌, ◌<◌, ◌≤◌, �
 use Rattle.std.specs.List.{All, AllWithin, slice_get}
 use Rattle.std.specs.List.Sorted.{IsPartitionedBy}
 use Rattle.std.proofs.lemmas.Bool.{cases_eq, cases_lt, false≢true, leb-true, le-leb}
-use Rattle.std.proofs.lemmas.Option.{get_or_from_slice_get, slice_get_within}
+use Rattle.std.proofs.lemmas.Option.{get_or_from_slice_get, slice_get-get_or, slice_get_within}
 use Rattle.hx_base.specs.declared.pixel.Pixel.{Pixel}
 use Rattle.hx_base.specs.Pixels.{AreDisjointInOrder, HoldsPosition, IsPixel, end_position, first_position}
-use Rattle.hx_ptree.specs.Searches.{AreConsecutive, IsHolder, IsSpan, Overlaps}
+use Rattle.hx_ptree.specs.Pieces.{HasWalkedTo}
+use Rattle.hx_ptree.specs.Searches.{AreConsecutive, IsHolder, IsHolding, IsSpan, Overlaps}
+use Rattle.hx_ptree.specs.declared.walk.Walked.{Walked}
 use Rattle.hx_base.proofs.Ranges.{ascend, holds_range, some_range}
 use Rattle.hx_ptree.proofs.Overlaps.{overlap_where_met, ranges_meet}
 
@@ -39,6 +41,33 @@ module _ (pixels : List Pixel) (h : AreDisjointInOrder pixels) where
       let both = in_order i j d le within in
       le-leb _ _ (omega (arith, later, both.0))
 
+  -- where one has not ended by a position, or not begun, no later one has
+  pub ends_later : (position index : ℕ) (part : Pixel) → index < length pixels → position < end_position (get_or pixels index part) → AllWithin (λ part. position < end_position part) pixels index (length pixels)
+  ends_later position index part there first = λ k d from within.
+      let same = get_or_from_slice_get pixels index (get_or pixels index part) d (slice_get-get_or pixels index part there) in
+      let both : end_position (get_or pixels index part) ≤ end_position (get_or pixels k d) = rw same at (in_order index k d from within).1 in
+      omega (arith, first, both)
+
+  pub begins_later : (position index : ℕ) (part : Pixel) → index < length pixels → position < first_position (get_or pixels index part) → AllWithin (λ part. position < first_position part) pixels index (length pixels)
+  begins_later position index part there first = λ k d from within.
+      let same = get_or_from_slice_get pixels index (get_or pixels index part) d (slice_get-get_or pixels index part there) in
+      let both : first_position (get_or pixels index part) ≤ first_position (get_or pixels k d) = rw same at (in_order index k d from within).0 in
+      omega (arith, first, both)
+
+  -- what has ended or begun by a pixel has by every later one
+  pub walked_on : (parts : List Pixel) (walked : Walked) (i j : ℕ) (here there : Pixel) → i ≤ j → slice_get pixels i ≡ Some here → slice_get pixels j ≡ Some there → HasWalkedTo parts here walked → HasWalkedTo parts there walked
+  walked_on parts walked i j here there le at_i at_j stands =
+      let within = slice_get_within pixels j there at_j in
+      let is_i = get_or_from_slice_get pixels i here here at_i in
+      let is_j = get_or_from_slice_get pixels j there here at_j in
+      let both : Before here there = rw is_j at (rw is_i at (in_order i j here le within)) in
+      record {
+        ended_within = stands.ended_within;
+        begun_within = stands.begun_within;
+        ended = λ k d from to. omega (arith, stands.ended k d from to, both.0);
+        begun = λ k d from to. omega (arith, stands.begun k d from to, both.1);
+      }
+
   -- the pixel behind those that have ended by a position is the only one that may hold it
   pub none_holds : (position index : ℕ) → AllWithin (λ part. end_position part ≤ position) pixels 0 index → AllWithin (λ part. position < end_position part) pixels index (length pixels)
       → ((d : Pixel) → index < length pixels → ¬ (HoldsPosition (get_or pixels index d) position)) → All (λ part. ¬ (HoldsPosition part position)) pixels
@@ -65,6 +94,10 @@ module _ (pixels : List Pixel) (h : AreDisjointInOrder pixels) where
   holder_is position index part true held at tells = (part, at, tells.0 refl)
   holder_is position index part false held at tells =
       none_holds position index held.0 held.1 (λ d lt here. false≢true (tells.1 (subst (λ (p : Pixel). HoldsPosition p position) (get_or_from_slice_get pixels index part d at) here)))
+
+  pub holding_is : (position index : ℕ) (part : Pixel) (holds : Bool) → Held position index → slice_get pixels index ≡ Some part → IsTrue holds ↔ HoldsPosition part position → IsHolding pixels position (then_some holds part)
+  holding_is position index part true held at tells = ((index, slice_get_within pixels index part at, get_or_from_slice_get pixels index part part at), tells.0 refl)
+  holding_is position index part false held at tells = holder_is position index part false held at tells
 
   pub consecutive : (pixel : Pixel) → IsPixel pixel → AreConsecutive (λ part. Overlaps part pixel) pixels
   consecutive pixel exists = λ i j k a b c ij jk at_i at_j at_k over_a over_c.

@@ -1,5 +1,5 @@
 -- Searches through a list of partitions: the one that holds a position, and those that overlap a pixel.
-use Rattle.std.specs.Prelude.{◌≡◌, ◌+◌, ◌<◌, ◌≤◌, ◌⊎◌, ◌↔◌, ℕ, List, Option, Some, None, All, length, slice_get}
+use Rattle.std.specs.Prelude.{◌≡◌, ◌+◌, ◌<◌, ◌≤◌, ◌⊎◌, ◌↔◌, ℕ, List, Option, Some, None, All, Contains, length, slice_get}
 use Rattle.hx_base.specs.declared.pixel.Pixel.{Pixel}
 use Rattle.hx_base.specs.Limits.{most_partitions}
 use Rattle.hx_base.specs.Pixels.{AreDisjointInOrder, HoldsPosition, LiesIn, end_position, first_position}
@@ -13,6 +13,11 @@ pub record IsPartitionList (pixels : List Pixel) : Type 0 where
 abbrev pub IsHolder : List Pixel → ℕ → Option ℕ → Type 0
 IsHolder pixels position (Some index) = (part : Pixel) × (slice_get pixels index ≡ Some part) × HoldsPosition part position
 IsHolder pixels position None = All (λ part. ¬ (HoldsPosition part position)) pixels
+
+-- the partition that holds a position, or none where none holds it
+abbrev pub IsHolding : List Pixel → ℕ → Option Pixel → Type 0
+IsHolding pixels position (Some part) = Contains pixels part × HoldsPosition part position
+IsHolding pixels position None = All (λ part. ¬ (HoldsPosition part position)) pixels
 
 -- one of two pixels lies in the other
 abbrev pub Overlaps : Pixel → Pixel → Type 0

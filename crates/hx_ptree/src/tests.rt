@@ -2,7 +2,7 @@ ghost use Rattle.std.specs.Prelude.{◌≡◌, ◌*◌, ◌^◌, ◌<◌, ◌↔
 ghost use Rattle.hx_base.specs.Pixels.{IsPixel};
 ghost use Rattle.hx_ptree.specs.Searches.{IsPartitionList};
 
-use crate::{PixelTree, Span};
+use crate::{Piece, PixelTree, Span, pieces};
 use hx_base::Pixel;
 use std::alloc::{AllocError, Global};
 use std::cmp::Ordering;
@@ -76,6 +76,30 @@ fn four_partitions(rt: HostRuntime) -> Result<(), Fail> {
         ((0, 11), (4, 0)),
     ];
     check_spans(&rt, &tree, &cases);
+    Ok(())
+}
+
+#[test]
+fn the_partition_itself(rt: HostRuntime) -> Result<(), Fail> {
+    let tree = tree_of(rt.alloc(), &[(1, 0), (1, 1), (1, 2), (0, 4)])?;
+    let cases = [
+        (0, Some((1, 0))),
+        (72_057_594_037_927_935, Some((1, 0))),
+        (72_057_594_037_927_936, Some((1, 1))),
+        (216_172_782_113_783_808, None),
+        (1_152_921_504_606_846_975, None),
+        (1_152_921_504_606_846_976, Some((0, 4))),
+        (1_441_151_880_758_558_719, Some((0, 4))),
+        (1_441_151_880_758_558_720, None),
+        (3_458_764_513_820_540_927, None),
+    ];
+    for (position, expected) in cases {
+        assert!(&rt; position < 3_458_764_513_820_540_928);
+        let part = tree.part(position).map(|part| (part.order, part.number));
+        assert_eq!(&rt; part, expected, "at {position}");
+    }
+    let none = tree_of(rt.alloc(), &[])?;
+    assert_eq!(&rt; none.part(0), None);
     Ok(())
 }
 
@@ -189,6 +213,87 @@ fn searches_find_what_a_loop_finds(rt: HostRuntime) -> Result<(), Fail> {
                     "at {order}, {number}"
                 );
             }
+        }
+    }
+    Ok(())
+}
+
+// Whether the pieces of two lists of partitions are these, as first and count.
+fn check_pieces(
+    rt: &impl Abort,
+    alloc: Global,
+    left: &[(u8, u64)],
+    right: &[(u8, u64)],
+    expected: &[(u32, u32)],
+) -> Result<(), AllocError> {
+    let left = tree_of(alloc, left)?;
+    let right = tree_of(alloc, right)?;
+    let found = pieces(alloc, &left, &right)?;
+    assert_eq!(rt; found.len(), expected.len());
+    for (index, piece) in found.iter().enumerate() {
+        assert_eq!(rt; piece.left as usize, index);
+        let (first, count) = expected[index];
+        assert_eq!(rt; (piece.first, piece.count), (first, count), "of {index}");
+    }
+    Ok(())
+}
+
+#[test]
+fn pieces_of_two_lists(rt: HostRuntime) -> Result<(), Fail> {
+    let alloc = rt.alloc();
+    let parts = [(1, 0), (1, 1), (1, 2), (0, 4)];
+    // Equal lists.
+    check_pieces(
+        &rt,
+        alloc,
+        &parts,
+        &parts,
+        &[(0, 1), (1, 1), (2, 1), (3, 1)],
+    )?;
+    // One over several, with a gap behind.
+    check_pieces(
+        &rt,
+        alloc,
+        &[(0, 0), (0, 1), (0, 4)],
+        &parts,
+        &[(0, 3), (3, 0), (3, 1)],
+    )?;
+    // Several below one.
+    check_pieces(
+        &rt,
+        alloc,
+        &parts,
+        &[(0, 0), (1, 17)],
+        &[(0, 1), (0, 1), (0, 1), (1, 1)],
+    )?;
+    // Between and beside.
+    check_pieces(&rt, alloc, &[(1, 3), (0, 5)], &parts, &[(3, 0), (4, 0)])?;
+    // An empty side.
+    check_pieces(&rt, alloc, &parts, &[], &[(0, 0), (0, 0), (0, 0), (0, 0)])?;
+    check_pieces(&rt, alloc, &[], &parts, &[])?;
+    Ok(())
+}
+
+#[test]
+fn pieces_are_what_a_loop_finds(rt: HostRuntime) -> Result<(), Fail> {
+    let alloc = rt.alloc();
+    for seed in 0..8 {
+        let left = parts_of(alloc, &random_pixels(alloc, seed)?)?;
+        let right = parts_of(alloc, &random_pixels(alloc, seed + 100)?)?;
+        let found = pieces(
+            alloc,
+            &PixelTree::build(alloc, &left)?,
+            &PixelTree::build(alloc, &right)?,
+        )?;
+        assert_eq!(&rt; found.len(), left.len());
+        for (index, piece) in found.iter().enumerate() {
+            let span = scanned(&right, left[index]);
+            let wanted = Piece {
+                left: index as u32,
+                first: span.first,
+                count: span.count,
+            };
+            assert_eq!(&rt; *piece, wanted, "with {seed}");
         }
     }
     Ok(())

@@ -2,7 +2,7 @@
 ghost use Rattle.std.specs.Prelude.{◌≡◌, ◌*◌, ◌^◌, ◌<◌, ◌≤◌, IfOk, length};
 ghost use Rattle.hx_base.specs.Limits.{most_partitions};
 ghost use Rattle.hx_base.specs.Pixels.{AreDisjointInOrder, IsPixel};
-ghost use Rattle.hx_ptree.specs.Searches.{IsHolder, IsPartitionList, IsSpan};
+ghost use Rattle.hx_ptree.specs.Searches.{IsHolder, IsHolding, IsPartitionList, IsSpan};
 
 use crate::search::{count_before, count_begun};
 use hx_base::Pixel;
@@ -48,6 +48,14 @@ impl PixelTree {
         Ok(PixelTree { parts })
     }
 
+    /// The pixels of the partitions, by their first positions.
+    pub fn parts(&self) -> &[Pixel]
+        ensures parts { result.now ≡ self.now }
+        ensures list { IsPartitionList self.now }
+    {
+        &self.parts
+    }
+
     /// The index of the partition that holds a position, or none where none holds it.
     pub fn holder(&self, hp: u64) -> Option<u32>
         requires { hp < 12 * 4 ^ 29 }
@@ -58,6 +66,17 @@ impl PixelTree {
         let index = count_before(parts, hp);
         let part = parts.get(index)?;
         part.holds(hp).then_some(index as u32)
+    }
+
+    /// The partition that holds a position, or none where none holds it.
+    pub fn part(&self, hp: u64) -> Option<Pixel>
+        requires { hp < 12 * 4 ^ 29 }
+        ensures part { IsHolding self.now hp result }
+        ensures list { IsPartitionList self.now }
+    {
+        let parts = self.parts.as_slice();
+        let part = parts.get(count_before(parts, hp))?;
+        part.holds(hp).then_some(*part)
     }
 
     /// The partitions that lie in a pixel or in which it lies. Where there are none, `first` is the number of the

@@ -1,0 +1,7 @@
+use Rattle.std.proofs.Common.{◌≤◌}
+use Rattle.std.specs.List.{AllWithin}
+use Rattle.hx_base.specs.Pixels.{first_position}
+use Rattle.hx_ptree.proofs.walk.begun_by.Given as goal
+
+abbrev pub invariant-loop-index : goal.invariant-loop-index
+invariant-loop-index l = AllWithin (λ part. first_position part ≤ l.position) l.parts 0 l.index
