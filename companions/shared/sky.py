@@ -19,9 +19,9 @@ ROUNDED = 2
 
 LEAST_GAP = 0.368
 """Times 2^-M and the sphere's radius: less than the least gap between the boxes of two cover pixels, of order M + 2, that
-aren't near at margin order M. Found by numbers: of all pairs of the orders 1 to 7 the least gap falls from 0.581 to 0.371; at
-the places where it is least, where three base pixels meet, it falls to 0.3683 at order 24. Tests look at all pairs of the
-lowest orders."""
+aren't near at margin order M. Found by numbers, no proof: over the pairs that are next to near ones, at the orders 1 to 7, the
+least gap falls from 0.581 to 0.371; at the places where it is least, where three base pixels meet, it falls to 0.3683 at order
+24. Tests look at these pairs at the lowest orders."""
 
 
 def pixels(ra, dec):

@@ -145,7 +145,7 @@ class TextTable(Table):
 
     def read_header(self, delimiter):
         self.records = self.open_records(delimiter)
-        self.names = next((record for record in self.records if record), [])
+        self.names = [name.strip() for name in next((record for record in self.records if record), [])]
         if not self.names:
             raise Refused(f"{self.path}: no header and no row in it")
 
@@ -235,14 +235,15 @@ class VoTable(Table):
             raise Refused(f"{path}: no table in it")
 
     def read_fields(self, events):
-        inside = False
+        inside, described = False, {}
         for start, tag, data, _ in events:
             if start and tag == "TABLE":
                 inside = True
-            elif start and tag == "FIELD" and inside:
-                self.fields.append(dict(data))
-            elif start and tag == "VALUES" and inside and self.fields:
-                self.fields[-1].setdefault("null", data.get("null"))
+            elif start and tag in ("FIELD", "PARAM") and inside:
+                described = dict(data)
+                self.fields += [described] if tag == "FIELD" else []
+            elif start and tag == "VALUES" and inside:
+                described.setdefault("null", data.get("null"))
             elif start and tag in ("TABLEDATA", "BINARY", "BINARY2", "FITS") and inside:
                 self.form = tag
                 return

@@ -3,6 +3,7 @@ import contextlib
 import io
 import os
 import runpy
+import signal
 import subprocess
 import sys
 from types import SimpleNamespace
@@ -32,10 +33,13 @@ MISSING = list(missing())
 collect_ignore_glob = ["test_*.py"] if MISSING else []
 
 
-def pytest_report_header():
+def pytest_terminal_summary(terminalreporter):
     if MISSING:
-        return f"skipped: all tests, since these packages are missing: {', '.join(MISSING)}"
-    return f"hats: {HATS if HATS != PLAIN_HATS else 'the plain stand-in of the tests (HATS names a program)'}"
+        terminalreporter.write_line(f"skipped: all tests, since these packages are missing: {', '.join(MISSING)}")
+    elif HATS == PLAIN_HATS:
+        terminalreporter.write_line("hats was the plain stand-in of the tests: the variable HATS names a program")
+    else:
+        terminalreporter.write_line(f"hats was {HATS}")
 
 
 def pytest_sessionfinish(session):
@@ -52,7 +56,7 @@ def call(program, *words, folder):
 def call_here(name, *words, folder):
     """Runs a companion in this process, which has its packages loaded already; answers as `call`."""
     out, err, status = io.StringIO(), io.StringIO(), 0
-    before, words_before = os.getcwd(), sys.argv
+    before, words_before, ended_before = os.getcwd(), sys.argv, signal.getsignal(signal.SIGTERM)
     path = os.path.join(COMPANIONS, name)
     sys.argv = [path, *map(str, words)]
     os.chdir(folder)
@@ -64,6 +68,7 @@ def call_here(name, *words, folder):
     finally:
         os.chdir(before)
         sys.argv = words_before
+        signal.signal(signal.SIGTERM, ended_before)
     return SimpleNamespace(status=status, out=out.getvalue(), err=err.getvalue())
 
 

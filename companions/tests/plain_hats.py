@@ -1,5 +1,5 @@
 #!/usr/bin/python3
-"""A plain stand-in for hats: import and xmatch by the rules of the formats, in memory, without order among tasks.
+"""A plain stand-in for hats: histogram, import and xmatch by the rules of the formats, in memory.
 
 The tests make their catalogues, journals and matches with it, and try the companions with it where the variable HATS names no
 program. It has no coverage test, no resuming and no refusals: what it is given has to be in order.
@@ -74,6 +74,15 @@ def write_text(path, text):
     os.makedirs(os.path.dirname(path) or ".", exist_ok=True)
     with open(path, "w") as file:
         file.write(text)
+
+
+# A histogram.
+
+
+def histogram(given):
+    counts = Counter(pixel(row, given.order) for path in given.files for row in read_rows(path))
+    for number, count in sorted(counts.items()):
+        print(f"{number},{count}")
 
 
 # An import.
@@ -192,6 +201,10 @@ def cross_match(given):
 def main():
     parser = argparse.ArgumentParser()
     commands = parser.add_subparsers(required=True)
+    counts = commands.add_parser("histogram")
+    counts.add_argument("order", type=int)
+    counts.add_argument("files", nargs="+")
+    counts.set_defaults(do=histogram)
     catalogue = commands.add_parser("import")
     for option, default in (
         ("lowest", 0),

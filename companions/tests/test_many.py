@@ -15,10 +15,10 @@ RADIUS = "2000000"
 MANY = os.path.join(COMPANIONS, "many")
 
 
-def many(folder, *words, status=0, hats=HATS):
+def many(folder, *words, status=0, hats=HATS, quiet=True):
     done = call(MANY, "--hats", hats, *words, folder=folder)
     assert done.status == status, (done.out, done.err)
-    assert "Traceback" not in done.err
+    assert "Traceback" not in done.err or quiet is False
     return done.out if status == 0 else done.err
 
 
@@ -80,6 +80,30 @@ def test_failed_tasks_are_run_again(tmp_path, job):
     assert (tmp_path / "out.csv").read_bytes() == expected
 
 
+def test_a_process_that_is_killed(tmp_path, job):
+    """The first hats kills the process that called it; the task is run again by another. Dask may log what it met."""
+    kills = other_hats(
+        tmp_path, f'if mkdir "{tmp_path}/killed" 2>/dev/null; then kill -9 $PPID; sleep 2; exit 5; fi\nexec {HATS} "$@"'
+    )
+    said = many(tmp_path, "--processes", "2", *job, hats=kills, quiet=False)
+    assert said.startswith("out inputs 4 rows 600 matched ") and (tmp_path / "killed").is_dir()
+    many(tmp_path, "--processes", "1", *job[:2], "again", *job[3:])
+    assert (tmp_path / "out.csv").read_bytes() == (tmp_path / "again.csv").read_bytes()
+
+
+def test_a_scheduler_that_is_not_there(tmp_path, job):
+    os.environ["DASK_DISTRIBUTED__COMM__TIMEOUTS__CONNECT"] = "1s"
+    try:
+        assert "can't be reached" in many(tmp_path, "--scheduler", "tcp://127.0.0.1:9", *job, status=75)
+    finally:
+        del os.environ["DASK_DISTRIBUTED__COMM__TIMEOUTS__CONNECT"]
+
+
+def test_a_program_that_is_not_there(tmp_path, job):
+    for alone in ([], ["--only", "0"]):
+        assert "./none is no program" in many(tmp_path, *alone, *job, hats="./none", status=1)
+
+
 def test_a_failure_that_stays(tmp_path, job):
     fails = other_hats(
         tmp_path, f'case "$(readlink input.csv)" in *left2*) echo store fault >&2; exit 5;; esac\nexec {HATS} "$@"'
@@ -120,7 +144,8 @@ def test_another_job(tmp_path, job):
         (["right", "5", "out", "none.csv"], 2, "none.csv can't be read"),
         (["right", "5", "out", "left.fits"], 1, "ends neither in .csv nor in .parquet"),
         (["right", "2000000001", "out", "left0-0000.csv"], 1, "is not a whole number from 0 to 2000000000"),
-        (["right", "5", "o/t", "left0-0000.csv"], 1, "a name has only"),
+        (["right", "5", "o/t", "left0-0000.csv"], 1, "'o/t' is no name"),
+        (["a_margin", "5", "out", "left0-0000.csv"], 1, "'a_margin' is no name"),
         (["--only", "1", "right", "5", "out", "left0-0000.csv"], 1, "there is no input 1"),
         (["right", "5", "out"], 1, "required"),
     ],
