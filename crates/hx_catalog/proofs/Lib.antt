@@ -8,4 +8,6 @@ mod Unbroken
 mod Columned
 mod Loaded
 mod Opened
+mod Own
+mod Permuted
 mod Whole

@@ -69,12 +69,12 @@ held position (part ∷ parts) h =
     ]
 
 -- the two laws on the partitions of rows
-abbrev EachOnce : Type 0
+abbrev pub EachOnce : Type 0
 EachOnce = (rows : List Row) (lowest highest threshold : ℕ) (pixels : List Pixel) → All (λ row. row.hp < 12 * 4 ^ 29) rows → lowest ≤ highest → highest ≤ 29
     → NothingOverfull (λ pixel. count_in pixel rows) highest threshold → ArePartitions (λ pixel. count_in pixel rows) lowest highest threshold pixels
     → All (λ row. length (holders_of row.hp pixels) ≡ 1) rows
 
-abbrev AreApart : Type 0
+abbrev pub AreApart : Type 0
 AreApart = (rows : List Row) (lowest highest threshold : ℕ) (pixels : List Pixel) → ArePartitions (λ pixel. count_in pixel rows) lowest highest threshold pixels → AreDisjointInOrder pixels
 
 pub is-cut : EachOnce → AreApart → (folder : Folder) (name : List ℕ) (settings : Settings) (rows : List Row) (is : IsCatalogue folder name settings rows) → IsCutInto rows is.parts settings.margin_order

@@ -8,8 +8,10 @@ ghost use Rattle.hx_base.specs.declared.row.Row.{Row};
 ghost use Rattle.hx_base.specs.declared.settings.Settings.{Settings};
 ghost use Rattle.hx_outside.specs.Folders.{Folder};
 ghost use Rattle.hx_catalog.specs.Answers.{Loads, Opened, Opens, opened_of};
-ghost use Rattle.hx_catalog.specs.Catalogues.{IsCatalogue};
+ghost use Rattle.hx_catalog.specs.Catalogues.{IsCatalogue, IsFinished, KeepsSentences, properties_with};
 ghost use Rattle.hx_catalog.specs.Files.{FileHolds};
+ghost use Rattle.hx_catalog.specs.declared.properties.Properties.{Properties};
+ghost use Rattle.std.specs.List.Sorted.{IsPermutation};
 
 use hx_base::{partitions_of_rows, sorted_rows_of_lists};
 use hx_pqread::reading_is_standing;
@@ -47,5 +49,27 @@ pub fn catalogues_are_cut()
     ensures { (folder : Folder) (name : List ℕ) (settings : Settings) (rows : List Row) (is : IsCatalogue folder name settings rows) →
         IsCutInto rows is.parts settings.margin_order }
 {
+    partitions_of_rows();
+}
+
+/// A folder that reads as the catalogue of some rows has a finished catalogue: that of the rows of its own files, which are
+/// these rows in another order.
+pub fn catalogues_are_finished()
+    ensures { (folder : Folder) (name : List ℕ) (settings : Settings) (rows : List Row) → IsCatalogue folder name settings rows →
+        (own : List Row) × IsPermutation rows own × IsFinished folder name settings own }
+{
+    sorted_rows_of_lists();
+    partitions_of_rows();
+}
+
+/// A folder by itself keeps all sentences exactly where it has a finished catalogue, of the settings in its properties and
+/// of the rows of its own files.
+pub fn finished_catalogues_keep_sentences()
+    ensures finished { (folder : Folder) (name : List ℕ) (properties : Properties) (parts : List Pixel) (rows : List Row) →
+        KeepsSentences folder name properties parts rows → IsFinished folder name properties.settings rows }
+    ensures sentences { (folder : Folder) (name : List ℕ) (settings : Settings) (rows : List Row) (is : IsFinished folder name settings rows) →
+        KeepsSentences folder name (properties_with settings false (length rows) is.catalogue.parts) is.catalogue.parts rows }
+{
+    sorted_rows_of_lists();
     partitions_of_rows();
 }

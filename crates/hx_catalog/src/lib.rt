@@ -15,7 +15,10 @@ mod properties;
 mod refused;
 mod writing;
 
-pub use finished::{answers_are_one, catalogues_are_cut, catalogues_are_read};
+pub use finished::{
+    answers_are_one, catalogues_are_cut, catalogues_are_finished, catalogues_are_read,
+    finished_catalogues_keep_sentences,
+};
 pub use laws::{lines_that_break_no_rule, lists_have_one_reading, properties_have_one_reading};
 pub use lists::{list_text, read_list};
 pub use opening::{Catalogue, open_catalogue};
