@@ -1,0 +1,15 @@
+pub mod Matches
+pub mod Reading
+pub mod Texts
+pub mod Around
+pub mod FieldLemmas
+pub mod BoxLemmas
+pub mod Moves
+pub mod PieceLemmas
+pub mod Listing
+pub mod Written
+pub mod Composed
+pub mod OutputNames
+pub mod TestLemmas
+pub mod AbsentLemmas
+pub mod Finished

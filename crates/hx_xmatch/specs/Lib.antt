@@ -1,0 +1,9 @@
+pub mod MatchText
+pub mod Reads
+pub mod Runs
+pub mod Fields
+pub mod Files
+pub mod Pieces
+pub mod Tested
+pub mod Output
+pub mod Outcomes
