@@ -1,26 +1,26 @@
-mod Digits
-mod Paths
-mod Ones
-mod Parts
-mod Steps
-mod Turns
-mod Inside
-mod Recording
-mod Counted
-mod Causes
-mod Keeping
-mod Homes
-mod Holding
-mod Reading
-mod Slicing
-mod Ranges
-mod Finishing
-mod Exits
-mod Finished
-mod Ending
-mod Totals
-mod Walking
-mod Starting
-mod Told
-mod Planned
-mod Listed
+pub mod Digits
+pub mod Paths
+pub mod Ones
+pub mod Parts
+pub mod Steps
+pub mod Turns
+pub mod Inside
+pub mod Recording
+pub mod Counted
+pub mod Causes
+pub mod Keeping
+pub mod Homes
+pub mod Holding
+pub mod Reading
+pub mod Slicing
+pub mod Ranges
+pub mod Finishing
+pub mod Exits
+pub mod Finished
+pub mod Ending
+pub mod Totals
+pub mod Walking
+pub mod Starting
+pub mod Told
+pub mod Planned
+pub mod Listed

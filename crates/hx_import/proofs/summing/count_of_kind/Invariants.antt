@@ -1,0 +1,6 @@
+use Rattle.std.proofs.Common.{◌≡◌, take}
+use Rattle.hx_book.specs.Books.{count_of_kind}
+use Rattle.hx_import.proofs.summing.count_of_kind.Given as goal
+
+abbrev pub invariant-loop-entry : goal.invariant-loop-entry
+invariant-loop-entry l = record { so_far : l.count ≡ count_of_kind l.kind (take l.entry-index l.records) }
