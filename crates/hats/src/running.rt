@@ -1,6 +1,6 @@
 //! A run behind the arguments: words, their inputs and a store, a sink for the text, and one for a refusal.
 ghost use Rattle.std.specs.Prelude.{◌≡◌, ◌⊎◌, IfErr, IfOk, Some, map, string_bytes};
-ghost use Rattle.hats.specs.Runs.{GainsLine, IsRun, IsTold, line_of};
+ghost use Rattle.hats.specs.Runs.{GainsLine, IsRunOver, IsTold, line_of};
 ghost use Rattle.hx_base.specs.Refusals.{status_after};
 ghost use Rattle.hx_base.specs.declared.refusal.Refusal.TheVariants.{Memory};
 ghost use Rattle.hx_words.specs.Words.{AreInputNames};
@@ -49,9 +49,8 @@ fn answer<Src: Source, S: Store, O: Sink>(
     out: &mut O,
 ) -> Answered<Src, S>
     requires { IfOk asked (λ asked. AreInputNames (map string_bytes asked.words.items) (map Src.source.label asked.inputs.items)) }
-    ensures run { IfOk asked (λ asked. IsRun Src.source O.sink (map string_bytes asked.words.items)
-        asked.inputs.items result.inputs.items out.old out.new result.refusal) }
-    ensures store { IfOk asked (λ asked. result.store ≡ Some asked.store) }
+    ensures run { IfOk asked (λ asked. IsRunOver Src.source S.disk O.sink (map string_bytes asked.words.items)
+        asked.inputs.items result.inputs.items asked.store result.store out.old out.new result.refusal) }
     ensures unknown { IfErr asked (λ refusal. (result.refusal ≡ Some refusal) × (out.new ≡ out.old)) }
 {
     match asked {
@@ -132,9 +131,8 @@ pub fn run<Src: Source, S: Store, O: Sink, E: Sink>(
     // The inputs' names are the file words of the line.
     requires { IfOk asked (λ asked. AreInputNames (map string_bytes asked.words.items) (map Src.source.label asked.inputs.items)) }
 
-    ensures run { IfOk asked (λ asked. IsRun Src.source O.sink (map string_bytes asked.words.items)
-        asked.inputs.items result.inputs.items out.old out.new result.refusal) }
-    ensures store { IfOk asked (λ asked. result.store ≡ Some asked.store) }
+    ensures run { IfOk asked (λ asked. IsRunOver Src.source S.disk O.sink (map string_bytes asked.words.items)
+        asked.inputs.items result.inputs.items asked.store result.store out.old out.new result.refusal) }
     ensures unknown { IfErr asked (λ refusal. (result.refusal ≡ Some refusal) × (out.new ≡ out.old)) }
     ensures told { IsTold result.refusal result.told }
     ensures line { GainsLine E.sink result.told errors.old errors.new }

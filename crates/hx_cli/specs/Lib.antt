@@ -4,3 +4,6 @@ pub mod FirstRefusal
 pub mod Texts
 pub mod Plans
 pub mod Neighbours
+pub mod Asked
+pub mod FolderTexts
+pub mod Leaves

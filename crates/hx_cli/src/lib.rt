@@ -2,7 +2,10 @@
 #![tactic(auto)]
 
 mod commands;
+mod folder_lines;
+mod folders;
 mod lines;
+mod names;
 mod neighbours;
 mod planning;
 mod run;

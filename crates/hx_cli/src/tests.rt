@@ -1,5 +1,7 @@
 //! The top call over sources and sinks in memory. The expected texts are counted by hand.
 mod around;
+mod folders;
+mod matches;
 mod parquet;
 mod plan;
 mod several;
@@ -76,6 +78,42 @@ fn words_of(alloc: Global, line: &str) -> Result<Vec<String>, AllocError> {
     Ok(words)
 }
 
+// The sources of a line and the sink of so much room.
+#[derive(Drop)]
+struct Given<'a> {
+    contents: &'a [&'a [u8]],
+    most: usize,
+    failing: &'a [&'a [u64]],
+    room: usize,
+    ghost some: { 0 < most },
+}
+
+// Runs a line over such sources, a sink and a folder, which comes back.
+fn run_in(
+    alloc: Global,
+    line: &str,
+    given: &Given<'_>,
+    store: MemStore,
+) -> Result<(Shown, MemStore), AllocError> {
+    let words = words_of(alloc, line)?;
+    let names = input_names(alloc, words.as_slice())?;
+    let inputs = sources(
+        alloc,
+        names.as_slice(),
+        given.contents,
+        given.most,
+        given.failing,
+    )?;
+    let mut out = MemSink::new(alloc, given.room)?;
+    let ran = run_plain(alloc, words.as_slice(), inputs, store, &mut out);
+    let shown = Shown {
+        status: ran.status,
+        refusal: ran.refusal,
+        written: out.bytes().to_vec(alloc)?,
+    };
+    Ok((shown, ran.store))
+}
+
 // Runs a line over such sources and a sink of so much room.
 fn run_over(
     alloc: Global,
@@ -87,22 +125,14 @@ fn run_over(
 ) -> Result<Shown, AllocError>
     requires { 0 < most }
 {
-    let words = words_of(alloc, line)?;
-    let names = input_names(alloc, words.as_slice())?;
-    let inputs = sources(alloc, names.as_slice(), contents, most, failing)?;
-    let mut out = MemSink::new(alloc, room)?;
-    let ran = run_plain(
-        alloc,
-        words.as_slice(),
-        inputs,
-        MemStore::new(alloc),
-        &mut out,
-    );
-    Ok(Shown {
-        status: ran.status,
-        refusal: ran.refusal,
-        written: out.bytes().to_vec(alloc)?,
-    })
+    let given = Given {
+        contents,
+        most,
+        failing,
+        room,
+    };
+    let (shown, _store) = run_in(alloc, line, &given, MemStore::new(alloc))?;
+    Ok(shown)
 }
 
 fn run(alloc: Global, line: &str, bytes: &[u8]) -> Result<Shown, AllocError> {
@@ -205,7 +235,13 @@ fn lines_without_a_meaning(rt: HostRuntime) -> Result<(), Fail> {
         "histogram 0",
         "plan --highest 21 a.csv",
         "around 0 12",
-        "import t a.csv",
+        "import --highest 3 --margin-order 3 t a.csv",
+        "import t",
+        "import A a.csv",
+        "histogram 01 a.csv",
+        "histogram 0 a.txt",
+        "clean t_margin",
+        "xmatch l r 2000000001 o",
     ];
     for line in lines {
         let shown = run(rt.alloc(), line, b"")?;

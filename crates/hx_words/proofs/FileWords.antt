@@ -1,5 +1,5 @@
 -- Words that name inputs.
-use Rattle.std.proofs.Common.{◌≡◌, ◌∙◌, ◌==◌, ◌<◌, ◌≤◌, ◌-◌, ◌∷◌, get_or, take, drop, ap, sym, [], false, ℕ, List, All, String, Global, length, map, string_bytes, arith, subst}
+use Rattle.std.proofs.Common.{◌≡◌, ◌∙◌, ◌==◌, ◌<◌, ◌≤◌, ◌-◌, ◌∷◌, get_or, take, drop, ap, sym, [], false, ℕ, List, All, String, Global, length, map, string_bytes, arith, refl, subst}
 use Rattle.std.proofs.Math.ListN.{get_or-map}
 use Rattle.std.proofs.lemmas.List.{length-map, take_rest}
 use Rattle.std.proofs.lemmas.List.Elements.{All-map}
@@ -34,3 +34,13 @@ two_words (w ∷ v ∷ words) first second is_first is_second a b are =
     let head : text w ≡ a = cc are in
     let next : text v ≡ b = cc are in
     (ap text is_first ∙ head, ap text is_second ∙ next)
+
+-- the texts of four words
+pub four_words : (words : List (String Global)) (a b c d : String Global) → 4 ≤ length words → length words < 5 → a ≡ get_or words 0 a → b ≡ get_or words 1 b → c ≡ get_or words 2 c → d ≡ get_or words 3 d
+    → map text words ≡ string_bytes a ∷ string_bytes b ∷ string_bytes c ∷ string_bytes d ∷ []
+four_words [] a b c d least most is_a is_b is_c is_d = absurd (omega (arith, least))
+four_words (w ∷ []) a b c d least most is_a is_b is_c is_d = absurd (omega (arith, least))
+four_words (w ∷ v ∷ []) a b c d least most is_a is_b is_c is_d = absurd (omega (arith, least))
+four_words (w ∷ v ∷ u ∷ []) a b c d least most is_a is_b is_c is_d = absurd (omega (arith, least))
+four_words (w ∷ v ∷ u ∷ t ∷ []) a b c d least most is_a is_b is_c is_d = rw (is_a, is_b, is_c, is_d) refl
+four_words (w ∷ v ∷ u ∷ t ∷ s ∷ words) a b c d least most is_a is_b is_c is_d = absurd (omega (arith, most))

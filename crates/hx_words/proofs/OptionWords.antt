@@ -5,6 +5,7 @@ use Rattle.std.specs.List.{Contains}
 use Rattle.std.specs.Option.{option_or, unwrap_or}
 use Rattle.std.specs.Prelude.{slice_index, if◌then◌else◌}
 use Rattle.hx_base.specs.FileWords.{IsFileWord}
+use Rattle.hx_base.specs.Names.{IsName, IsNameByte}
 use Rattle.hx_words.specs.Words.{AreFiles, value_of}
 use Rattle.std.proofs.lemmas.Bool.{cases_Bool}
 use Rattle.std.proofs.lemmas.Fmt.{decimal_injective}
@@ -221,6 +222,17 @@ dashed option.Highest = refl
 dashed option.Threshold = refl
 dashed option.MarginOrder = refl
 
+dash_first : (name : OptionName) → get_or (word_of name) 0 45 ≡ 45
+dash_first option.Lowest = refl
+dash_first option.Highest = refl
+dash_first option.Threshold = refl
+dash_first option.MarginOrder = refl
+
+no_dash : IsNameByte 45 → ⊥
+no_dash (inl h) = omega (arith, h.0)
+no_dash (inr (inl h)) = omega (arith, h.0)
+no_dash (inr (inr h)) = omega (arith, h)
+
 -- no input's name is an option's
 pub files_end : (files : List (List ℕ)) → AreFiles files → BeginsNoOption files
 files_end files are name more is =
@@ -228,14 +240,22 @@ files_end files are name more is =
     let first : IsFileWord (word_of name) = all 0 [] (omega arith) in
     first.no_option (dashed name)
 
+-- nor is a catalogue's name
+pub name_ends : (name : List ℕ) (rest : List (List ℕ)) → IsName name → BeginsNoOption (name ∷ rest)
+name_ends name rest named option more is =
+    let same : name ≡ word_of option = cc is in
+    let byte = named.bytes 0 45 (omega (arith, named.least)) in
+    let dash : get_or name 0 45 ≡ 45 = rw same (dash_first option) in
+    no_dash (rw dash at byte)
+
 or-none : (a b : Option ℕ) → b ≡ None → option_or a b ≡ a
 or-none None b none = none
 or-none (Some n) b none = refl
 
 -- what options behind a command are read as, where none stand before them
 module _ (names : List OptionName) (before : Options) (none : (name : OptionName) → kept before name ≡ None) (words : List (List ℕ)) where
-  pub further_of : (options : List (OptionName × ℕ)) (files : List (List ℕ)) → words ≡ option_words options ++ files → AreOptions names options → AreFiles files → AreFurther names before words options files
-  further_of options files form sound inputs = record { form = form; sound = sound; new = all-new before none options; end = files_end files inputs }
+  pub further_of : (options : List (OptionName × ℕ)) (rest : List (List ℕ)) → words ≡ option_words options ++ rest → AreOptions names options → BeginsNoOption rest → AreFurther names before words options rest
+  further_of options rest form sound end = record { form = form; sound = sound; new = all-new before none options; end = end }
 
   module _ (after : Options) (count : ℕ) (read : AreRead names before words after count) where
     -- the options that were read are those of the line
@@ -248,9 +268,9 @@ module _ (names : List OptionName) (before : Options) (none : (name : OptionName
     pub number_is : (name : OptionName) → number_of after name ≡ value_of name read.options
     number_is name = ap (λ (o : Option ℕ). unwrap_or o (default_of name)) (kept-given name)
 
-    -- options and files that are the words are those that were read
-    pub one_reading : (options : List (OptionName × ℕ)) (files : List (List ℕ)) → words ≡ option_words options ++ files → AreOptions names options → AreFiles files
-        → (files ≡ drop count words) × ((name : OptionName) → value_of name options ≡ number_of after name)
-    one_reading options files form sound inputs =
-        let one = split_once names options read.options files (drop count words) sound read.further.sound (files_end files inputs) read.further.end (sym form ∙ read.further.form) in
+    -- options and other words that are the words are those that were read
+    pub one_reading : (options : List (OptionName × ℕ)) (rest : List (List ℕ)) → words ≡ option_words options ++ rest → AreOptions names options → BeginsNoOption rest
+        → (rest ≡ drop count words) × ((name : OptionName) → value_of name options ≡ number_of after name)
+    one_reading options rest form sound end =
+        let one = split_once names options read.options rest (drop count words) sound read.further.sound end read.further.end (sym form ∙ read.further.form) in
         (one.1, λ name. ap (λ (o : List (OptionName × ℕ)). value_of name o) one.0 ∙ sym (number_is name))

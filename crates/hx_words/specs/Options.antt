@@ -26,6 +26,10 @@ default_of option.Highest = 7
 default_of option.Threshold = 1000000
 default_of option.MarginOrder = 10
 
+-- the options of `import`
+abbrev pub import_options : List OptionName
+import_options = option.Lowest ∷ option.Highest ∷ option.Threshold ∷ option.MarginOrder ∷ []
+
 -- the options of `plan`
 abbrev pub plan_options : List OptionName
 plan_options = option.Lowest ∷ option.Highest ∷ option.Threshold ∷ []

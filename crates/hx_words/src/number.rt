@@ -1,12 +1,15 @@
 //! Numbers of the command line.
 ghost use Rattle.std.specs.Prelude.{◌≡◌, ◌≢◌, ◌≤◌, ◌<◌, ◌*◌, ◌^◌, ℕ, MatchOption, IsTrue, ◌↔◌};
 ghost use Rattle.std.specs.Fmt.{decimal};
-ghost use Rattle.hx_words.specs.Words.{BeginsNumber};
+ghost use Rattle.hx_words.specs.Words.{BeginsNumber, most_radius};
 
 use hx_base::pixels_of_order;
 
 // The order of positions is the highest.
 const POSITIONS: u64 = 29;
+
+// The chord of two opposite points, in 10^-9.
+const MOST_RADIUS: u64 = 2_000_000_000;
 
 // Whether a text may be a number by its first byte: `0` stands alone, and there is no sign.
 fn begins_a_number(digits: &[u8]) -> bool
@@ -51,4 +54,15 @@ pub fn pixel(order: u8, word: &str) -> Option<u64>
         return None;
     }
     Some(pixel)
+}
+
+/// A chord within which rows are looked for, in 10^-9.
+pub fn radius(word: &str) -> Option<u64>
+    ensures { MatchOption result ((n : ℕ) → n ≤ most_radius → word.now ≢ decimal n) (λ n. (n ≤ most_radius) × (word.now ≡ decimal n)) }
+{
+    let radius = number(word)?;
+    if radius > MOST_RADIUS {
+        return None;
+    }
+    Some(radius)
 }

@@ -8,8 +8,13 @@ returns-in-Ok-clause-run g c =
       usage = ran.usage;
       many = ran.many;
       first = ran.first;
+      decided = ran.decided;
       in_turn = ran.in_turn;
       cause = ran.cause;
       output = ran.output;
       later = ran.sink;
+      faults = ran.faults;
+      left = ran.store;
+      untouched = ran.untouched;
+      too_many = ran.too_many;
     })

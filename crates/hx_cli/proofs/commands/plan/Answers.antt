@@ -7,11 +7,10 @@ use Rattle.hx_cli.proofs.Answered.{turn_of_cut}
 use Rattle.hx_cli.proofs.FirstRefusals.{later_first}
 use Rattle.hx_cli.proofs.Planned.{cut_of_rows, plan_of_rows, shows_weaker}
 use Rattle.hx_align.specs.Refusals.{IsCutCause, IsCutRefusal}
-use Rattle.hx_inputs.specs.Inputs.{IsAfterRows, bad_input}
+use Rattle.hx_inputs.specs.Inputs.{AreRows, IsAfterRows, bad_input}
 use Rattle.hx_cli.specs.FirstRefusal.{IsPlanRefusal}
-use Rattle.hx_cli.specs.Plans.{partition_line}
-use Rattle.hx_cli.specs.Runs.{IsTextOf}
-use Rattle.hx_words.specs.Words.{Plan}
+use Rattle.hx_cli.specs.Plans.{IsPlanText, partition_line}
+use Rattle.hx_base.specs.declared.row.Row.{Row}
 use Rattle.hx_cli.proofs.commands.plan.Goals as goal
 
 pub returns-clause-text : goal.returns-clause-text
@@ -25,7 +24,7 @@ returns-clause-text g c = λ (bytes : List (List ℕ)). λ tell.
     let read = c.in_ok-counts.ensures.counts bytes tell in
     IfOk-weaker c.plan_text.result
     (λ text. (plan : List PlanRow) × IsPlanOf (totals_of hist) lowest highest threshold plan × (text.items ≡ flat_map (λ row. partition_line row.pixel row.count) plan))
-    (λ text. IsTextOf (Plan lowest highest threshold names) names bytes text.items)
+    (λ text. (rows : List Row) × AreRows names bytes rows × IsPlanText lowest highest threshold rows text.items)
     (λ text made. (read.0, read.1, plan_of_rows hist highest read.0 c.in_ok-counts.ensures.order within read.2 lowest threshold text.items made)) c.plan_text.ensures.text
 
 pub returns-clause-first : goal.returns-clause-first

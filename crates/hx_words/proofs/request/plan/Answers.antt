@@ -1,7 +1,7 @@
 use Rattle.std.proofs.Common.{String, Global, List, None, arith, map, rules, string_bytes, ℕ, ◌≡◌, refl}
 use Rattle.std.proofs.lemmas.List.{drop-map, take_rest}
 use Rattle.hx_words.specs.Options.{plan_options}
-use Rattle.hx_words.proofs.OptionWords.{further_of, kept_range}
+use Rattle.hx_words.proofs.OptionWords.{files_end, further_of, kept_range}
 use Rattle.hx_words.proofs.Requests.{plan_line, plan_requested}
 use Rattle.hx_words.proofs.request.plan.Goals as goal
 
@@ -12,7 +12,7 @@ pub returns-in_err-options : goal.returns-in_err-options
 returns-in_err-options c =
     let words = map text c.args.line.now in
     let is : c.from_residual.result ≡ None = search rules in
-    rw is (λ lowest highest threshold files line. c.in_err-options.ensures line.options files (further_of plan_options c.none.result c.none.ensures words line.options files (cc line.form) line.sound line.inputs))
+    rw is (λ lowest highest threshold files line. c.in_err-options.ensures line.options files (further_of plan_options c.none.result c.none.ensures words line.options files (cc line.form) line.sound (files_end files line.inputs)))
 
 pub returns-then-not-are_files : goal.returns-then-not-are_files
 returns-then-not-are_files c = λ lowest highest threshold files line.
