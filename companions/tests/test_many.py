@@ -39,7 +39,7 @@ def make_inputs(folder, rows=600, parts=4):
 @pytest.fixture
 def job(tmp_path, hats):
     names = make_inputs(tmp_path)
-    hats("import", "--margin-order", "4", "--threshold", "100", "right", "right-0000.csv")
+    hats("import", "--highest", "3", "--margin-order", "4", "--threshold", "100", "right", "right-0000.csv")
     return ["right", RADIUS, "out", *names]
 
 
