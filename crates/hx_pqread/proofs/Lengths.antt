@@ -130,14 +130,19 @@ by_index rows [] h i below = absurd (omega (arith, below))
 by_index rows (list ∷ lists) h zero below = h.0
 by_index rows (list ∷ lists) h (suc i) below = by_index rows lists h.1 i (omega (arith, below))
 
-pub whole_lengths : (file : List ℕ) (names : List (List ℕ)) (lists : List (List ℤ)) → columns_in file names ≡ Ok lists → (length lists ≡ length names) × (rows : ℕ) × HaveRows rows lists
+-- the columns of a file have as many values as its footer tells
+pub footer_lengths : (file : List ℕ) (names : List (List ℕ)) (lists : List (List ℤ)) → columns_in file names ≡ Ok lists
+    → (footer : FooterRecord) × (footer_in file ≡ Ok footer) × (length lists ≡ length names) × HaveRows (rows_of footer.groups) lists
 unfolding columns_in
-whole_lengths file names lists e =
+footer_lengths file names lists e =
     let footer = bind_ok (footer_in file) (λ footer. columns_at footer file 0 names >>= λ columns. unless_absent (least_absent columns) (map present columns)) lists e in
     let columns = bind_ok (columns_at footer.0 file 0 names) (λ columns. unless_absent (least_absent columns) (map present columns)) lists footer.2 in
     let kept = kept_all (least_absent columns.0) (map present columns.0) lists columns.2 in
     let h = columns_lengths footer.0 file 0 names columns.0 columns.1 kept.0 in
-    (ap length (sym kept.1) ∙ h.0, rows_of footer.0.groups, by_index (rows_of footer.0.groups) lists (subst (λ (lists : List (List ℤ)). AllRows (rows_of footer.0.groups) lists) kept.1 h.1))
+    (footer.0, footer.1, ap length (sym kept.1) ∙ h.0, by_index (rows_of footer.0.groups) lists (subst (λ (lists : List (List ℤ)). AllRows (rows_of footer.0.groups) lists) kept.1 h.1))
+
+pub whole_lengths : (file : List ℕ) (names : List (List ℕ)) (lists : List (List ℤ)) → columns_in file names ≡ Ok lists → (length lists ≡ length names) × (rows : ℕ) × HaveRows rows lists
+whole_lengths file names lists e = let h = footer_lengths file names lists e in (h.2, rows_of h.0.groups, h.3)
 
 -- what holds of each value that may be answered
 pub if_ok : {X Y : Type 0} (result : Result X PqRefusal) (view : X → Y) (wanted : Result Y PqRefusal) (P : X → Type 0) → AnswersOrWants view result wanted → ((x : X) → wanted ≡ Ok (view x) → P x) → IfOk result P

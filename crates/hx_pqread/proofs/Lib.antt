@@ -8,4 +8,5 @@ mod Numbered
 mod Saying
 mod Spreading
 mod Standing
+mod Told
 mod Whole

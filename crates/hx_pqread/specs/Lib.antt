@@ -5,5 +5,6 @@ pub mod Laws
 pub mod Levels
 pub mod Numbers
 pub mod Pages
+pub mod Rows
 pub mod Runs
 pub mod Values

@@ -14,10 +14,12 @@ mod levels;
 mod lists;
 mod numbers;
 mod page;
+mod rows;
 
 pub use file::columns;
 pub use laws::reading_is_standing;
 pub use lists::Columns;
+pub use rows::rows_in_footer;
 
 #[cfg(test)]
 mod tests;

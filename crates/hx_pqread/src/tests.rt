@@ -2,6 +2,7 @@
 mod bodies;
 mod files;
 mod making;
+mod rows;
 
 use super::*;
 use hx_pqmeta::PqRefusal;
@@ -33,6 +34,10 @@ fn check(
             assert_eq!(rt; columns.count(), lists.len());
             for i in 0..columns.count() {
                 assert_eq!(rt; Some(columns.column(i)), lists.get(i).copied());
+                assert_eq!(rt;
+                    rows_in_footer(alloc, file),
+                    Ok(columns.column(i).len() as u64)
+                );
             }
         }
         (read, expected) => assert_eq!(rt; read.err(), expected.err(), "{}", file.escape_ascii()),
