@@ -4,6 +4,7 @@ pub mod Collecting
 pub mod Columns
 pub mod Few
 pub mod Indices
+pub mod Lengths
 pub mod Lines
 pub mod Numbers
 pub mod OwnRows

@@ -18,5 +18,5 @@ mod tests;
 
 pub use fault::Fault;
 pub use laws::rows_of_their_columns;
-pub use parquet::{parquet_rows, rows_of_columns};
+pub use parquet::{parquet_rows, rows_in_parquet, rows_of_columns};
 pub use read::{RowRefusal, read_rows};

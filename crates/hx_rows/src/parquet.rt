@@ -1,10 +1,11 @@
-ghost use Rattle.std.specs.Prelude.{◌≡◌, ◌↔◌, ◌≤◌, ◌<◌, ◌∷◌, [], ℕ, ℤ, IfOk, Err, List, length, map, slice_get, string_bytes};
+ghost use Rattle.std.specs.Prelude.{◌≡◌, ◌↔◌, ◌≤◌, ◌<◌, ◌∷◌, [], ℕ, ℤ, IfErr, IfOk, Err, List, Ok, length, map, slice_get, string_bytes};
 ghost use Rattle.std.specs.List.{range_with_len};
 ghost use Rattle.hx_base.specs.Columns.{column_names, row_of};
+ghost use Rattle.hx_base.specs.declared.row.Row.{Row};
 ghost use Rattle.hx_pqmeta.specs.Refusals.{AnswersOrWants};
 ghost use Rattle.hx_pqread.specs.Columns.{HaveRows, columns_in};
 ghost use Rattle.hx_rows.specs.Parquet.{file_fault, parquet_rows, row_across, rows_of_columns};
-ghost use Rattle.hx_rows.specs.Reading.{Reads};
+ghost use Rattle.hx_rows.specs.Reading.{Reads, Tells};
 ghost use Rattle.hx_rows.specs.Rows.{in_row, rows_from};
 
 use crate::fault::Fault;
@@ -12,7 +13,7 @@ use crate::read::RowRefusal;
 use crate::rows::push_row;
 use hx_base::{Row, column_names, row_of};
 use hx_pqmeta::PqRefusal;
-use hx_pqread::{Columns, columns};
+use hx_pqread::{Columns, columns, rows_in_footer};
 use std::alloc::{AllocError, Global};
 
 // The value of a column in a row that it has.
@@ -133,6 +134,18 @@ pub fn parquet_rows(alloc: Global, bytes: &[u8]) -> Result<Vec<Row>, RowRefusal>
 {
     match five_columns(alloc, bytes) {
         Ok(columns) => rows_of_columns(alloc, &columns),
+        Err(refusal) => Err(refused_file(refusal)),
+    }
+}
+
+/// How many rows a Parquet file has that is read as rows, by its footer alone. A refusal tells the file's first fault.
+pub fn rows_in_parquet(alloc: Global, bytes: &[u8]) -> Result<u64, RowRefusal>
+    ensures rows { IfOk result (λ n. (rows : List Row) → parquet_rows bytes.now ≡ Ok rows → n ≡ length rows) }
+    ensures fault { IfErr result (λ refusal. Tells refusal (parquet_rows bytes.now)) }
+    ensures cause { IfErr result (λ refusal. (rows : List Row) → parquet_rows bytes.now ≡ Ok rows → refusal ≡ RowRefusal.Memory) }
+{
+    match rows_in_footer(alloc, bytes) {
+        Ok(rows) => Ok(rows),
         Err(refusal) => Err(refused_file(refusal)),
     }
 }

@@ -256,12 +256,30 @@ fn one_column(rt: HostRuntime) {
         read(rt.alloc(), &ONE_ROW).err(),
         Some(RowRefusal::Bad { row: 0, why: 1 })
     );
+    assert_eq!(rt; rows_in_parquet(rt.alloc(), &ONE_ROW), Ok(1));
 }
 
 #[test]
 fn three_rows(rt: HostRuntime) -> Result<(), Fail> {
     let rows = read(rt.alloc(), &THREE_ROWS)?;
     assert_eq!(rt; rows.as_slice(), ROWS.as_slice());
+    assert_eq!(rt;
+        rows_in_parquet(rt.alloc(), &THREE_ROWS),
+        Ok(rows.len() as u64)
+    );
+    Ok(())
+}
+
+// Where the footer is refused, so is the file, for the same reason; where it isn't, it tells three rows.
+#[test]
+fn rows_by_the_footer(rt: HostRuntime) -> Result<(), Fail> {
+    for (changes, row, why) in FAULTS {
+        let file = changed(rt.alloc(), changes)?;
+        let told = rows_in_parquet(rt.alloc(), &file);
+        if told != Err(RowRefusal::Bad { row, why }) {
+            assert_eq!(rt; told, Ok(3), "{changes:?}");
+        }
+    }
     Ok(())
 }
 
@@ -283,6 +301,10 @@ fn texts(rt: HostRuntime) {
     let text = b"id,_healpix_29,cx,cy,cz\n";
     assert_eq!(rt;
         read(rt.alloc(), text).err(),
+        Some(RowRefusal::Bad { row: 0, why: 9 })
+    );
+    assert_eq!(rt;
+        rows_in_parquet(rt.alloc(), text).err(),
         Some(RowRefusal::Bad { row: 0, why: 9 })
     );
 }
