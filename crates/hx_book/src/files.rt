@@ -22,7 +22,7 @@ use crate::schedule::PLAN;
 use hx_align::Plan;
 use hx_base::{JobFile, MOST_PARTITIONS, Name, Pixel, Refusal, Task, job_path};
 use hx_outside::StoreError;
-use hx_rows::read_rows;
+use hx_rows::rows_in_parquet;
 use hx_spill::{read_plan, rows_in_map, rows_in_split};
 use std::alloc::{AllocError, Global};
 
@@ -151,14 +151,13 @@ fn plan_rows(alloc: Global, bytes: &[u8]) -> Result<u64, Refusal>
     }
 }
 
-// The rows of a Parquet file.
-#[tactic(auto, unfolding(hx_rows::specs::Reading::rows_of))]
+// The rows of a Parquet file, by its footer alone.
 fn parquet_rows(alloc: Global, bytes: &[u8]) -> Result<u64, Refusal>
     ensures rows { IfOk result (λ n. (rows : List Row) → parquet_rows bytes.now ≡ Ok rows → n ≡ length rows) }
     ensures cause { IfErr result (λ r. r ≡ Memory) }
 {
-    match read_rows(alloc, ".parquet", bytes) {
-        Ok(rows) => Ok(rows.len() as u64),
+    match rows_in_parquet(alloc, bytes) {
+        Ok(rows) => Ok(rows),
         Err(_) => Err(Refusal::Memory),
     }
 }
