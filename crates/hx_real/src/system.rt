@@ -1,9 +1,14 @@
 //! Calls on the files below a folder, with what makes the names in it last.
+ghost use Rattle.std.specs.Prelude.{◌≤◌, IfOk, length};
+
 #[cfg(test)]
 mod tests;
 
-use crate::folders::{folder_of, make_folders, sync_folders};
-use crate::whole_files::{append_to, len_of, sync_bytes};
+use crate::folders::{folder_of, is_absence, make_folders, sync_folder, sync_folders};
+use crate::lasting::Lasting;
+use crate::whole_files::{cut_to, len_of, open_end, read_from, set_byte_of, sync_bytes};
+use crate::writing::write_all;
+use std::alloc::Global;
 use std::fs::File;
 use std::rt::Files;
 use std::{fs, io};
@@ -11,39 +16,89 @@ use std::{fs, io};
 /// The system's files below a root. Each is named by a path that begins with the root's.
 #[derive(Drop)]
 pub(crate) struct System<R> {
-    pub(crate) rt: R,
+    rt: R,
     /// The length of the root's path in bytes.
     root: usize,
-    // The path of the folder that was synced last, with those above it, and since when no name came or went by
-    // this system; empty where there is none.
-    settled: String,
+    lasting: Lasting,
+    // The path of the file whose length was asked last, and its length, while no file was changed since; no path
+    // where there is none.
+    asked: String,
+    len: u64,
 }
 
 impl<R: Files<File = File>> System<R> {
-    pub(crate) fn new(rt: R, root: usize, settled: String) -> System<R> {
-        System { rt, root, settled }
+    pub(crate) fn new(rt: R, root: usize, alloc: Global) -> System<R> {
+        System {
+            rt,
+            root,
+            lasting: Lasting::new(alloc),
+            asked: String::new(alloc),
+            len: 0,
+        }
     }
 
-    // Syncs the folders of a path, so that a crash leaves their names.
+    /// How many bytes a file has, None where it is absent. A folder or a pipe is no file.
+    pub(crate) fn len(&mut self, path: &str) -> io::Result<Option<u64>> {
+        self.asked.clear();
+        let len = len_of(&self.rt, path)?;
+        if let Some(len) = len {
+            self.len = len;
+            // Where there is no memory for it, it is asked again next time.
+            let _ = self.asked.push_str(path);
+        }
+        Ok(len)
+    }
+
+    /// Reads the bytes from `at` on that fit the buffer or are left, and says how many.
+    pub(crate) fn read(&mut self, path: &str, at: u64, buf: &mut [u8]) -> io::Result<usize>
+        ensures { IfOk result (λ count. count ≤ length buf.old) }
+    {
+        let len = if self.asked.as_str() == path {
+            Some(self.len)
+        } else {
+            self.len(path)?
+        };
+        match len {
+            Some(len) if at < len => read_from(&self.rt, path, at, buf),
+            _ => Ok(0),
+        }
+    }
+
+    // Makes the absent folders of a path.
+    fn make_folders(&mut self, path: &str) -> io::Result<()> {
+        self.lasting.forget();
+        make_folders(&self.rt, path, self.root)
+    }
+
+    // Syncs the folder of a path, so that a crash leaves its names, and those above it where their names may not last.
     fn sync_names(&mut self, path: &str) -> io::Result<()> {
         let folder = folder_of(path);
-        if self.settled.as_str() == folder {
+        if self.lasting.is_settled(folder) {
             return Ok(());
         }
-        sync_folders(&self.rt, path, self.root)?;
-        self.settled.clear();
-        // Where there is no memory for it, it is synced again next time.
-        let _ = self.settled.push_str(folder);
+        if self.lasting.is_known(folder) {
+            sync_folder(&self.rt, folder)?;
+        } else {
+            sync_folders(&self.rt, path, self.root)?;
+        }
+        self.lasting.settle(folder);
         Ok(())
     }
 
     /// Adds bytes at the end of a file. One that is absent is made, with its folders.
     pub(crate) fn append(&mut self, path: &str, bytes: &[u8]) -> io::Result<()> {
+        self.asked.clear();
         if len_of(&self.rt, path)?.is_none() {
-            self.settled.clear();
-            make_folders(&self.rt, path, self.root)?;
+            self.lasting.unsettle(folder_of(path));
         }
-        append_to(&self.rt, path, bytes)
+        let mut file = match open_end(&self.rt, path) {
+            Err(error) if is_absence(&error) => {
+                self.make_folders(path)?;
+                open_end(&self.rt, path)?
+            }
+            file => file?,
+        };
+        write_all(&mut file, bytes)
     }
 
     /// Syncs a file and the folders of its path. Where it is absent, it stays so after a crash.
@@ -52,25 +107,47 @@ impl<R: Files<File = File>> System<R> {
         self.sync_names(path)
     }
 
-    /// Gives a file another name, whose folders are made, and syncs the folders of both. Where it is absent, or both
-    /// names are one, nothing changes.
+    /// Sets the byte at `at`, where there is one.
+    pub(crate) fn set_byte(&mut self, path: &str, at: u64, value: u8) -> io::Result<()> {
+        set_byte_of(&self.rt, path, at, value)
+    }
+
+    /// Shortens a file to a length in bytes, where it is longer.
+    pub(crate) fn cut(&mut self, path: &str, len: u64) -> io::Result<()> {
+        self.asked.clear();
+        cut_to(&self.rt, path, len)
+    }
+
+    // Renames a file; the folders of the new name are made where they are absent.
+    fn move_file(&mut self, from: &str, to: &str) -> io::Result<()> {
+        match fs::rename(&self.rt, from, to) {
+            Err(error) if is_absence(&error) => {
+                self.make_folders(to)?;
+                fs::rename(&self.rt, from, to)
+            }
+            moved => moved,
+        }
+    }
+
+    /// Gives a file another name, whose folders are made, and syncs the folder of that name. A rename is one step of the
+    /// system: once the new name lasts, the old one is gone. Where it is absent, or both names are one, nothing changes.
     pub(crate) fn rename(&mut self, from: &str, to: &str) -> io::Result<()> {
+        self.asked.clear();
         if len_of(&self.rt, from)?.is_none() || from == to {
             return Ok(());
         }
-        self.settled.clear();
-        make_folders(&self.rt, to, self.root)?;
-        fs::rename(&self.rt, from, to)?;
-        self.sync_names(to)?;
-        self.sync_names(from)
+        self.lasting.unsettle(folder_of(to));
+        self.move_file(from, to)?;
+        self.sync_names(to)
     }
 
-    /// Removes a file and syncs the folders of its path. Where it is absent, nothing changes.
+    /// Removes a file and syncs the folder of its path. Where it is absent, nothing changes.
     pub(crate) fn remove(&mut self, path: &str) -> io::Result<()> {
+        self.asked.clear();
         if len_of(&self.rt, path)?.is_none() {
             return Ok(());
         }
-        self.settled.clear();
+        self.lasting.unsettle(folder_of(path));
         fs::remove_file(&self.rt, path)?;
         self.sync_names(path)
     }

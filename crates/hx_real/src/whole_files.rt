@@ -41,7 +41,7 @@ fn fill<F: FileExt>(file: &F, at: u64, buf: &mut [u8]) -> io::Result<usize>
     Err(Error::from(ErrorKind::TimedOut))
 }
 
-/// Reads the bytes from `at` on that fit the buffer or are left, and says how many.
+/// Reads the bytes of a file from `at` on that fit the buffer or are left, and says how many.
 pub(crate) fn read_from<R: Files<File = File>>(
     rt: &R,
     path: &str,
@@ -50,19 +50,13 @@ pub(crate) fn read_from<R: Files<File = File>>(
 ) -> io::Result<usize>
     ensures { IfOk result (λ count. count ≤ length buf.old) }
 {
-    match len_of(rt, path)? {
-        Some(len) if at < len => {
-            let file = File::open(rt, path)?;
-            fill(&file, at, buf)
-        }
-        _ => Ok(0),
-    }
+    let file = File::open(rt, path)?;
+    fill(&file, at, buf)
 }
 
-/// Adds bytes at the end of a file, which is made where it is absent.
-pub(crate) fn append_to<R: Files<File = File>>(rt: &R, path: &str, bytes: &[u8]) -> io::Result<()> {
-    let mut file = OpenOptions::new().append(true).create(true).open(rt, path)?;
-    write_all(&mut file, bytes)
+/// Opens a file to add bytes at its end. It is made where it is absent, and its folder isn't.
+pub(crate) fn open_end<R: Files<File = File>>(rt: &R, path: &str) -> io::Result<File> {
+    OpenOptions::new().append(true).create(true).open(rt, path)
 }
 
 /// Syncs what a file holds, where there is one.
