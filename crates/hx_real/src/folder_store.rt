@@ -21,8 +21,8 @@ use std::rt::Files;
 
 /// A folder of the system, its root. A name is the path of a file inside it; one that is empty or absolute, has a
 /// NUL, or has a part between its slashes that is empty, `.` or `..`, has failed, and so has a name of a folder.
-/// Folders are made as needed. Symbolic links are followed. No file is open beyond a call. It tells nothing of its
-/// files.
+/// Folders are made as needed. Symbolic links are followed. At most 128 files that were read stay open. It tells
+/// nothing of its files.
 #[derive(Drop)]
 pub struct FolderStore<R> {
     system: System<R>,

@@ -5,8 +5,9 @@ ghost use Rattle.std.specs.Prelude.{◌≤◌, IfOk, length};
 mod tests;
 
 use crate::folders::{folder_of, is_absence, make_folders, sync_folder, sync_folders};
+use crate::known::Known;
 use crate::lasting::Lasting;
-use crate::whole_files::{cut_to, len_of, open_end, read_from, set_byte_of, sync_bytes};
+use crate::whole_files::{cut_file, fill, len_of, open_end, set_byte_of, sync_bytes};
 use crate::writing::write_all;
 use std::alloc::Global;
 use std::fs::File;
@@ -19,11 +20,8 @@ pub(crate) struct System<R> {
     rt: R,
     /// The length of the root's path in bytes.
     root: usize,
+    known: Known,
     lasting: Lasting,
-    // The path of the file whose length was asked last, and its length, while no file was changed since; no path
-    // where there is none.
-    asked: String,
-    len: u64,
 }
 
 impl<R: Files<File = File>> System<R> {
@@ -31,35 +29,50 @@ impl<R: Files<File = File>> System<R> {
         System {
             rt,
             root,
+            known: Known::new(alloc),
             lasting: Lasting::new(alloc),
-            asked: String::new(alloc),
-            len: 0,
+        }
+    }
+
+    // How many bytes a file has that wasn't looked at last.
+    fn look(&self, path: &str) -> io::Result<Option<u64>> {
+        match self.known.file(path) {
+            Some(file) => Ok(Some(file.metadata()?.len())),
+            None => len_of(&self.rt, path),
         }
     }
 
     /// How many bytes a file has, None where it is absent. A folder or a pipe is no file.
     pub(crate) fn len(&mut self, path: &str) -> io::Result<Option<u64>> {
-        self.asked.clear();
-        let len = len_of(&self.rt, path)?;
+        if let Some(len) = self.known.len(path) {
+            return Ok(Some(len));
+        }
+        let len = self.look(path)?;
         if let Some(len) = len {
-            self.len = len;
-            // Where there is no memory for it, it is asked again next time.
-            let _ = self.asked.push_str(path);
+            self.known.set_len(path, len);
         }
         Ok(len)
     }
 
-    /// Reads the bytes from `at` on that fit the buffer or are left, and says how many.
+    // Reads the bytes of a file that is there. It stays open.
+    fn read_there(&mut self, path: &str, at: u64, buf: &mut [u8]) -> io::Result<usize>
+        ensures { IfOk result (λ count. count ≤ length buf.old) }
+    {
+        if let Some(file) = self.known.file(path) {
+            return fill(file, at, buf);
+        }
+        let file = File::open(&self.rt, path)?;
+        let read = fill(&file, at, buf);
+        self.known.keep(path, file);
+        read
+    }
+
+    /// Reads the bytes from `at` on that fit the buffer or are left, and says how many. The file stays open.
     pub(crate) fn read(&mut self, path: &str, at: u64, buf: &mut [u8]) -> io::Result<usize>
         ensures { IfOk result (λ count. count ≤ length buf.old) }
     {
-        let len = if self.asked.as_str() == path {
-            Some(self.len)
-        } else {
-            self.len(path)?
-        };
-        match len {
-            Some(len) if at < len => read_from(&self.rt, path, at, buf),
+        match self.len(path)? {
+            Some(len) if at < len => self.read_there(path, at, buf),
             _ => Ok(0),
         }
     }
@@ -85,37 +98,56 @@ impl<R: Files<File = File>> System<R> {
         Ok(())
     }
 
-    /// Adds bytes at the end of a file. One that is absent is made, with its folders.
-    pub(crate) fn append(&mut self, path: &str, bytes: &[u8]) -> io::Result<()> {
-        self.asked.clear();
-        if len_of(&self.rt, path)?.is_none() {
-            self.lasting.unsettle(folder_of(path));
-        }
-        let mut file = match open_end(&self.rt, path) {
+    // Opens a file to add bytes at its end. One that is absent is made, with its folders.
+    fn open_end(&mut self, path: &str) -> io::Result<File> {
+        match open_end(&self.rt, path) {
             Err(error) if is_absence(&error) => {
                 self.make_folders(path)?;
-                open_end(&self.rt, path)?
+                open_end(&self.rt, path)
             }
-            file => file?,
-        };
-        write_all(&mut file, bytes)
+            opened => opened,
+        }
+    }
+
+    /// Adds bytes at the end of a file. One that is absent is made, with its folders.
+    pub(crate) fn append(&mut self, path: &str, bytes: &[u8]) -> io::Result<()> {
+        let len = self.len(path)?;
+        self.known.forget(path);
+        if len.is_none() {
+            self.lasting.unsettle(folder_of(path));
+        }
+        let mut file = self.open_end(path)?;
+        write_all(&mut file, bytes)?;
+        let len = len.unwrap_or(0).saturating_add(bytes.len() as u64);
+        self.known.set_len(path, len);
+        Ok(())
     }
 
     /// Syncs a file and the folders of its path. Where it is absent, it stays so after a crash.
     pub(crate) fn sync(&mut self, path: &str) -> io::Result<()> {
-        sync_bytes(&self.rt, path)?;
+        if self.len(path)?.is_some() {
+            sync_bytes(&self.rt, path)?;
+        }
         self.sync_names(path)
     }
 
     /// Sets the byte at `at`, where there is one.
     pub(crate) fn set_byte(&mut self, path: &str, at: u64, value: u8) -> io::Result<()> {
-        set_byte_of(&self.rt, path, at, value)
+        match self.len(path)? {
+            Some(len) if at < len => set_byte_of(&self.rt, path, at, value),
+            _ => Ok(()),
+        }
     }
 
     /// Shortens a file to a length in bytes, where it is longer.
     pub(crate) fn cut(&mut self, path: &str, len: u64) -> io::Result<()> {
-        self.asked.clear();
-        cut_to(&self.rt, path, len)
+        match self.len(path)? {
+            Some(now) if len < now => {
+                self.known.forget(path);
+                cut_file(&self.rt, path, len)
+            }
+            _ => Ok(()),
+        }
     }
 
     // Renames a file; the folders of the new name are made where they are absent.
@@ -132,10 +164,11 @@ impl<R: Files<File = File>> System<R> {
     /// Gives a file another name, whose folders are made, and syncs the folder of that name. A rename is one step of the
     /// system: once the new name lasts, the old one is gone. Where it is absent, or both names are one, nothing changes.
     pub(crate) fn rename(&mut self, from: &str, to: &str) -> io::Result<()> {
-        self.asked.clear();
-        if len_of(&self.rt, from)?.is_none() || from == to {
+        if self.len(from)?.is_none() || from == to {
             return Ok(());
         }
+        self.known.forget(from);
+        self.known.forget(to);
         self.lasting.unsettle(folder_of(to));
         self.move_file(from, to)?;
         self.sync_names(to)
@@ -143,10 +176,10 @@ impl<R: Files<File = File>> System<R> {
 
     /// Removes a file and syncs the folder of its path. Where it is absent, nothing changes.
     pub(crate) fn remove(&mut self, path: &str) -> io::Result<()> {
-        self.asked.clear();
-        if len_of(&self.rt, path)?.is_none() {
+        if self.len(path)?.is_none() {
             return Ok(());
         }
+        self.known.forget(path);
         self.lasting.unsettle(folder_of(path));
         fs::remove_file(&self.rt, path)?;
         self.sync_names(path)
