@@ -1,17 +1,11 @@
 //! What is known of files that only this system changes: the length of the one that was looked at last, and those that
 //! are open.
 use std::alloc::Global;
+use std::collections::HashMap;
 use std::fs::File;
 
 // So many files are open at most.
 const MOST: usize = 128;
-
-// An open file.
-#[derive(Drop)]
-struct Open {
-    path: String,
-    file: File,
-}
 
 /// The file that was looked at last, by its length, and the files that were read and are open.
 #[derive(Drop)]
@@ -20,8 +14,8 @@ pub(crate) struct Known {
     // The path of the file that was looked at last, empty where there is none, and its length in bytes.
     path: String,
     len: u64,
-    // The one that was opened last stands last.
-    open: Vec<Open>,
+    // By their paths.
+    open: HashMap<String, File>,
 }
 
 impl Known {
@@ -30,7 +24,7 @@ impl Known {
             alloc,
             path: String::new(alloc),
             len: 0,
-            open: Vec::new(alloc),
+            open: HashMap::new(alloc),
         }
     }
 
@@ -52,24 +46,22 @@ impl Known {
 
     /// A file that is open.
     pub(crate) fn file(&self, path: &str) -> Option<&File> {
-        let known = self.open.iter().find(|known| known.path.as_str() == path)?;
-        Some(&known.file)
+        self.open.get(path)
     }
 
-    /// Keeps a file open, in place of the one that was opened first where there are too many. Where there is no memory for
-    /// it, it is closed.
+    /// Keeps a file open; where there are too many, the others are closed. Where there is no memory for it, it is closed.
     pub(crate) fn keep(&mut self, path: &str, file: File) {
         if self.open.len() >= MOST {
-            self.open.remove(0);
+            self.open.clear();
         }
         if let Ok(path) = String::from_str(self.alloc, path) {
-            let _ = self.open.push(Open { path, file });
+            let _ = self.open.insert(path, file);
         }
     }
 
     /// A file changes: its length isn't known, and it is closed.
     pub(crate) fn forget(&mut self, path: &str) {
         self.path.clear();
-        self.open.retain(|known| known.path.as_str() != path);
+        let _ = self.open.remove(path);
     }
 }
