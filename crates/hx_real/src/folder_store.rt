@@ -11,7 +11,6 @@ mod tests;
 
 use crate::names::{path_in, root_of, stays_inside};
 use crate::system::System;
-use crate::whole_files::{cut_to, len_of, read_from, set_byte_of};
 use hx_outside::{Store, StoreError};
 use std::alloc::{AllocError, Global};
 use std::fs::File;
@@ -22,8 +21,8 @@ use std::rt::Files;
 
 /// A folder of the system, its root. A name is the path of a file inside it; one that is empty or absolute, has a
 /// NUL, or has a part between its slashes that is empty, `.` or `..`, has failed, and so has a name of a folder.
-/// Folders are made as needed. Symbolic links are followed. No file is open beyond a call. It tells nothing of its
-/// files.
+/// Folders are made as needed. Symbolic links are followed. At most 128 files that were read stay open. It tells
+/// nothing of its files.
 #[derive(Drop)]
 pub struct FolderStore<R> {
     system: System<R>,
@@ -47,7 +46,7 @@ impl<R: Files<File = File> + Clone + Drop + Send> FolderStore<R> {
     {
         let root = root_of(alloc, root)?;
         Ok(FolderStore {
-            system: System::new(rt.clone()?, root.len(), String::new(alloc)),
+            system: System::new(rt.clone()?, root.len(), alloc),
             root,
             faults: 0,
         })
@@ -129,7 +128,7 @@ impl<R: Files<File = File> + Drop> Store for FolderStore<R> {
         ensures outside { ¬ (StaysInside name.now) → result ≡ Err Failed }
     {
         let path = self.path(name)?;
-        let len = len_of(&self.system.rt, path.as_str());
+        let len = self.system.len(path.as_str());
         self.counted_look(len)
     }
 
@@ -140,7 +139,7 @@ impl<R: Files<File = File> + Drop> Store for FolderStore<R> {
         ensures outside { ¬ (StaysInside name.now) → result ≡ Err Failed }
     {
         let path = self.path(name)?;
-        let read = read_from(&self.system.rt, path.as_str(), at, buf);
+        let read = self.system.read(path.as_str(), at, buf);
         self.counted_look(read)
     }
 
@@ -170,7 +169,7 @@ impl<R: Files<File = File> + Drop> Store for FolderStore<R> {
         ensures outside { ¬ (StaysInside name.now) → result ≡ Err Failed }
     {
         let path = self.path(name)?;
-        let set = set_byte_of(&self.system.rt, path.as_str(), at, value);
+        let set = self.system.set_byte(path.as_str(), at, value);
         self.counted(set)
     }
 
@@ -180,7 +179,7 @@ impl<R: Files<File = File> + Drop> Store for FolderStore<R> {
         ensures outside { ¬ (StaysInside name.now) → result ≡ Err Failed }
     {
         let path = self.path(name)?;
-        let cut = cut_to(&self.system.rt, path.as_str(), len);
+        let cut = self.system.cut(path.as_str(), len);
         self.counted(cut)
     }
 

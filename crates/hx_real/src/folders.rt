@@ -59,8 +59,8 @@ pub(crate) fn make_folders<R: Files>(rt: &R, path: &str, root: usize) -> io::Res
     Ok(())
 }
 
-// Syncs a folder, so that a crash leaves the names that it has. One that is absent has none.
-fn sync_folder<R: Files<File = File>>(rt: &R, path: &str) -> io::Result<()> {
+/// Syncs a folder, so that a crash leaves the names that it has. One that is absent has none.
+pub(crate) fn sync_folder<R: Files<File = File>>(rt: &R, path: &str) -> io::Result<()> {
     match File::open(rt, path) {
         Ok(folder) => folder.sync_all(),
         Err(error) if is_absence(&error) => Ok(()),

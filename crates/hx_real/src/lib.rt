@@ -4,6 +4,8 @@
 mod file_source;
 mod folder_store;
 mod folders;
+mod known;
+mod lasting;
 mod names;
 mod out_sink;
 mod system;

@@ -22,8 +22,8 @@ pub(crate) fn len_of<R: Files>(rt: &R, path: &str) -> io::Result<Option<u64>> {
     }
 }
 
-// Fills the buffer from `at` on, as far as there are bytes, and says how many.
-fn fill<F: FileExt>(file: &F, at: u64, buf: &mut [u8]) -> io::Result<usize>
+/// Fills the buffer from `at` on, as far as there are bytes, and says how many.
+pub(crate) fn fill<F: FileExt>(file: &F, at: u64, buf: &mut [u8]) -> io::Result<usize>
     ensures { IfOk result (λ count. count ≤ length buf.old) }
 {
     let mut count = 0;
@@ -41,59 +41,29 @@ fn fill<F: FileExt>(file: &F, at: u64, buf: &mut [u8]) -> io::Result<usize>
     Err(Error::from(ErrorKind::TimedOut))
 }
 
-/// Reads the bytes from `at` on that fit the buffer or are left, and says how many.
-pub(crate) fn read_from<R: Files<File = File>>(
-    rt: &R,
-    path: &str,
-    at: u64,
-    buf: &mut [u8],
-) -> io::Result<usize>
-    ensures { IfOk result (λ count. count ≤ length buf.old) }
-{
-    match len_of(rt, path)? {
-        Some(len) if at < len => {
-            let file = File::open(rt, path)?;
-            fill(&file, at, buf)
-        }
-        _ => Ok(0),
-    }
+/// Opens a file to add bytes at its end. It is made where it is absent, and its folder isn't.
+pub(crate) fn open_end<R: Files<File = File>>(rt: &R, path: &str) -> io::Result<File> {
+    OpenOptions::new().append(true).create(true).open(rt, path)
 }
 
-/// Adds bytes at the end of a file, which is made where it is absent.
-pub(crate) fn append_to<R: Files<File = File>>(rt: &R, path: &str, bytes: &[u8]) -> io::Result<()> {
-    let mut file = OpenOptions::new().append(true).create(true).open(rt, path)?;
-    write_all(&mut file, bytes)
-}
-
-/// Syncs what a file holds, where there is one.
+/// Syncs what a file holds.
 pub(crate) fn sync_bytes<R: Files<File = File>>(rt: &R, path: &str) -> io::Result<()> {
-    match len_of(rt, path)? {
-        Some(_) => File::open(rt, path)?.sync_data(),
-        None => Ok(()),
-    }
+    File::open(rt, path)?.sync_data()
 }
 
-/// Sets the byte at `at`, where there is one.
+/// Sets the byte of a file at a place that it has.
 pub(crate) fn set_byte_of<R: Files<File = File>>(
     rt: &R,
     path: &str,
     at: u64,
     value: u8,
 ) -> io::Result<()> {
-    match len_of(rt, path)? {
-        Some(len) if at < len => {
-            let mut file = OpenOptions::new().write(true).open(rt, path)?;
-            file.seek(SeekFrom::Start(at))?;
-            write_all(&mut file, &[value])
-        }
-        _ => Ok(()),
-    }
+    let mut file = OpenOptions::new().write(true).open(rt, path)?;
+    file.seek(SeekFrom::Start(at))?;
+    write_all(&mut file, &[value])
 }
 
-/// Shortens a file to a length in bytes, where it is longer.
-pub(crate) fn cut_to<R: Files<File = File>>(rt: &R, path: &str, len: u64) -> io::Result<()> {
-    match len_of(rt, path)? {
-        Some(now) if len < now => OpenOptions::new().write(true).open(rt, path)?.set_len(len),
-        _ => Ok(()),
-    }
+/// Shortens a file to a length in bytes.
+pub(crate) fn cut_file<R: Files<File = File>>(rt: &R, path: &str, len: u64) -> io::Result<()> {
+    OpenOptions::new().write(true).open(rt, path)?.set_len(len)
 }
