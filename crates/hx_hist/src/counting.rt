@@ -1,5 +1,5 @@
 //! From rows to the histogram of their pixels.
-ghost use Rattle.std.specs.Prelude.{◌≡◌, ◌==◌, ◌+◌, ◌*◌, ◌^◌, ◌<◌, ◌≤◌, ℕ, All, IfOk, IsSorted, length, replicate, slice_index, vec_len, count_by};
+ghost use Rattle.std.specs.Prelude.{◌≡◌, ◌==◌, ◌+◌, ◌*◌, ◌^◌, ◌<◌, ◌≤◌, ℕ, All, if◌then◌else◌, IfOk, IsSorted, OnOk, length, replicate, slice_index, vec_len, count_by};
 ghost use Rattle.std.specs.List.{sum_by};
 ghost use Rattle.std.specs.Ordering.{nat_cmp};
 ghost use Rattle.hx_base.specs.Pixels.{count_in, pixel_of};
@@ -9,7 +9,7 @@ ghost use Rattle.hx_hist.specs.Histograms.{count_at, total_of};
 #[cfg(test)]
 mod tests;
 
-use crate::Hist;
+use crate::{Hist, Pair};
 use hx_base::{Pixel, Row, pixels_of_order};
 use std::alloc::{AllocError, Global};
 
@@ -54,6 +54,21 @@ pub fn count_into(table: &mut [u64], order: u8, rows: &[Row])
     }
 }
 
+// Counts rows of a pixel behind all others.
+#[inline]
+fn count_behind(hist: &mut Hist, pixel: u64, count: u64) -> Result<(), AllocError>
+    requires below { All (λ other. other.pixel < pixel) hist.old.pairs }
+    requires some { 0 < count }
+    requires pixel { pixel < 12 * 4 ^ hist.old.order }
+    requires total { total_of hist.old.pairs + count < 2 ^ 64 }
+    ensures order { hist.new.order ≡ hist.old.order }
+    ensures below { OnOk result (All (λ other. other.pixel < pixel + 1) hist.new.pairs) }
+    ensures counts { OnOk result ((p : ℕ) → count_at p hist.new.pairs ≡ count_at p hist.old.pairs + (if p == pixel then count else 0)) }
+    ensures total { OnOk result (total_of hist.new.pairs ≡ total_of hist.old.pairs + count) }
+{
+    hist.push(Pair { pixel, count })
+}
+
 /// The histogram of a table that has a count for each pixel of an order.
 pub fn hist_of_table(alloc: Global, order: u8, table: &[u64]) -> Result<Hist, AllocError>
     requires order { order ≤ 29 }
@@ -66,7 +81,7 @@ pub fn hist_of_table(alloc: Global, order: u8, table: &[u64]) -> Result<Hist, Al
     let mut hist = Hist::new(alloc, order);
     for (pixel, count) in table.iter().enumerate() {
         if *count > 0 {
-            hist.add(pixel as u64, *count)?;
+            count_behind(&mut hist, pixel as u64, *count)?;
         }
     }
     Ok(hist)

@@ -97,7 +97,7 @@ impl Hist {
     }
 
     /// Puts a pair behind all others, in constant time.
-    pub(crate) fn push(&mut self, pair: Pair) -> Result<(), AllocError>
+    pub fn push(&mut self, pair: Pair) -> Result<(), AllocError>
         requires below { All (λ other. other.pixel < pair.pixel) self.old.pairs }
         requires some { 0 < pair.count }
         requires pixel { pair.pixel < 12 * 4 ^ self.old.order }
