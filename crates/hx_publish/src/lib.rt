@@ -7,4 +7,4 @@ mod reading;
 mod tests;
 
 pub use publishing::publish;
-pub use reading::read_file;
+pub use reading::{read_file, read_range};

@@ -1,5 +1,5 @@
 //! Publishing that is stopped after each call, and files that are read.
-use crate::{publish, read_file};
+use crate::{publish, read_file, read_range};
 use hx_mem::MemStore;
 use hx_outside::{Store, StoreError};
 use std::alloc::Global;
@@ -91,5 +91,41 @@ fn files_are_read_whole(rt: HostRuntime) -> Result<(), Fail> {
     store.fail_calls(&[calls])?;
     let found = read_file(rt.alloc(), &mut store, "a");
     assert!(rt; matches!(found, Err(StoreError::Failed)));
+    Ok(())
+}
+
+#[test]
+fn ranges_are_read(rt: HostRuntime) -> Result<(), Fail> {
+    let bytes = bytes_of(rt.alloc(), 9000)?;
+    let mut store = MemStore::new(rt.alloc());
+    store.put("a", &bytes)?;
+    for from in [0, 1, 4000, 8999, 9000, 9001, u64::MAX] {
+        for most in [0, 1, 4096, 5000, 9000, u64::MAX] {
+            let found = read_range(rt.alloc(), &mut store, "a", from, most)?;
+            let start = from.min(9000);
+            let end = start + most.min(9000 - start);
+            let there = &bytes[start as usize..end as usize];
+            assert_eq!(rt; found.as_slice(), there, "{most} from {from}");
+        }
+    }
+    let found = read_range(rt.alloc(), &mut store, "b", 0, 12)?;
+    assert!(rt; found.is_empty());
+    Ok(())
+}
+
+#[test]
+fn a_range_asks_twice(rt: HostRuntime) -> Result<(), Fail> {
+    let bytes = bytes_of(rt.alloc(), 9000)?;
+    let mut store = MemStore::new(rt.alloc());
+    store.put("a", &bytes)?;
+    for call in 0..2 {
+        store.fail_calls(&[store.calls() + call])?;
+        let found = read_range(rt.alloc(), &mut store, "a", 10, 8900);
+        assert!(rt; matches!(found, Err(StoreError::Failed)), "call {call}");
+    }
+    let calls = store.calls();
+    let found = read_range(rt.alloc(), &mut store, "a", 10, 8900)?;
+    assert_eq!(rt; found.len(), 8900);
+    assert_eq!(rt; store.calls(), calls + 2);
     Ok(())
 }
