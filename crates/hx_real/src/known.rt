@@ -7,6 +7,13 @@ use std::fs::File;
 // So many files are open at most.
 const MOST: usize = 128;
 
+// An open file and its length in bytes.
+#[derive(Drop)]
+struct Open {
+    file: File,
+    len: u64,
+}
+
 /// The file that was looked at last, by its length, and the files that were read and are open.
 #[derive(Drop)]
 pub(crate) struct Known {
@@ -15,7 +22,7 @@ pub(crate) struct Known {
     path: String,
     len: u64,
     // By their paths.
-    open: HashMap<String, File>,
+    open: HashMap<String, Open>,
 }
 
 impl Known {
@@ -28,13 +35,12 @@ impl Known {
         }
     }
 
-    /// The length of a file in bytes, if it was looked at last.
+    /// The length of a file in bytes, if it was looked at last or is open.
     pub(crate) fn len(&self, path: &str) -> Option<u64> {
         if self.path.as_str() == path {
-            Some(self.len)
-        } else {
-            None
+            return Some(self.len);
         }
+        Some(self.open.get(path)?.len)
     }
 
     /// A file has so many bytes. Where there is no memory for it, this isn't known.
@@ -46,16 +52,17 @@ impl Known {
 
     /// A file that is open.
     pub(crate) fn file(&self, path: &str) -> Option<&File> {
-        self.open.get(path)
+        Some(&self.open.get(path)?.file)
     }
 
-    /// Keeps a file open; where there are too many, the others are closed. Where there is no memory for it, it is closed.
-    pub(crate) fn keep(&mut self, path: &str, file: File) {
+    /// Keeps a file of a length open; where there are too many, the others are closed. Where there is no memory for it, it
+    /// is closed.
+    pub(crate) fn keep(&mut self, path: &str, file: File, len: u64) {
         if self.open.len() >= MOST {
             self.open.clear();
         }
         if let Ok(path) = String::from_str(self.alloc, path) {
-            let _ = self.open.insert(path, file);
+            let _ = self.open.insert(path, Open { file, len });
         }
     }
 

@@ -34,28 +34,20 @@ impl<R: Files<File = File>> System<R> {
         }
     }
 
-    // How many bytes a file has that wasn't looked at last.
-    fn look(&self, path: &str) -> io::Result<Option<u64>> {
-        match self.known.file(path) {
-            Some(file) => Ok(Some(file.metadata()?.len())),
-            None => len_of(&self.rt, path),
-        }
-    }
-
     /// How many bytes a file has, None where it is absent. A folder or a pipe is no file.
     pub(crate) fn len(&mut self, path: &str) -> io::Result<Option<u64>> {
         if let Some(len) = self.known.len(path) {
             return Ok(Some(len));
         }
-        let len = self.look(path)?;
+        let len = len_of(&self.rt, path)?;
         if let Some(len) = len {
             self.known.set_len(path, len);
         }
         Ok(len)
     }
 
-    // Reads the bytes of a file that is there. It stays open.
-    fn read_there(&mut self, path: &str, at: u64, buf: &mut [u8]) -> io::Result<usize>
+    // Reads the bytes of a file of a length. It stays open.
+    fn read_there(&mut self, path: &str, len: u64, at: u64, buf: &mut [u8]) -> io::Result<usize>
         ensures { IfOk result (λ count. count ≤ length buf.old) }
     {
         if let Some(file) = self.known.file(path) {
@@ -63,7 +55,7 @@ impl<R: Files<File = File>> System<R> {
         }
         let file = File::open(&self.rt, path)?;
         let read = fill(&file, at, buf);
-        self.known.keep(path, file);
+        self.known.keep(path, file, len);
         read
     }
 
@@ -72,7 +64,7 @@ impl<R: Files<File = File>> System<R> {
         ensures { IfOk result (λ count. count ≤ length buf.old) }
     {
         match self.len(path)? {
-            Some(len) if at < len => self.read_there(path, at, buf),
+            Some(len) if at < len => self.read_there(path, len, at, buf),
             _ => Ok(0),
         }
     }
