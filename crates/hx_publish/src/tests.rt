@@ -104,8 +104,8 @@ fn ranges_are_read(rt: HostRuntime) -> Result<(), Fail> {
             let found = read_range(rt.alloc(), &mut store, "a", from, most)?;
             let start = from.min(9000);
             let end = start + most.min(9000 - start);
-            let there = &bytes[start as usize..end as usize];
-            assert_eq!(rt; found.as_slice(), there, "{most} from {from}");
+            let there = bytes.get(start as usize..end as usize);
+            assert_eq!(rt; Some(found.as_slice()), there, "{most} from {from}");
         }
     }
     let found = read_range(rt.alloc(), &mut store, "b", 0, 12)?;
@@ -119,13 +119,13 @@ fn a_range_asks_twice(rt: HostRuntime) -> Result<(), Fail> {
     let mut store = MemStore::new(rt.alloc());
     store.put("a", &bytes)?;
     for call in 0..2 {
-        store.fail_calls(&[store.calls() + call])?;
+        store.fail_calls(&[store.calls().saturating_add(call)])?;
         let found = read_range(rt.alloc(), &mut store, "a", 10, 8900);
         assert!(rt; matches!(found, Err(StoreError::Failed)), "call {call}");
     }
     let calls = store.calls();
     let found = read_range(rt.alloc(), &mut store, "a", 10, 8900)?;
     assert_eq!(rt; found.len(), 8900);
-    assert_eq!(rt; store.calls(), calls + 2);
+    assert_eq!(rt; store.calls(), calls.saturating_add(2));
     Ok(())
 }
