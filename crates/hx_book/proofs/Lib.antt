@@ -13,8 +13,8 @@ pub mod Homes
 pub mod Holding
 pub mod Reading
 pub mod Slicing
-pub mod Ranges
 pub mod Finishing
+pub mod Fronts
 pub mod Exits
 pub mod Finished
 pub mod Ending

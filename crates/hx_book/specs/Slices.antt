@@ -57,12 +57,17 @@ abbrev pub rows_found : Option SlicePlace → List ℕ → Read (List Row)
 rows_found None bytes = Ok []
 rows_found (Some place) bytes = rows_from place (bytes_at place bytes)
 
+-- what is read of a part by the bytes of a head
+abbrev pub read_by_head : (part : ℕ) → (head bytes : List ℕ) → Read (List Row)
+read_by_head part head bytes = do
+  found ← slice_place part head
+  rows_found found bytes
+
 -- what is read of a part alone: the first twelve bytes, then the head, then the part's rows
 abbrev pub read_alone : (part : ℕ) → List ℕ → Read (List Row)
 read_alone part bytes = do
   width ← head_width (take 12 bytes)
-  found ← slice_place part (take width bytes)
-  rows_found found bytes
+  read_by_head part (take width bytes) bytes
 
 -- what is answered is what is read, unless the store fails or memory runs out
 abbrev pub Answers : Result (Vec Row Global) SliceError → Read (List Row) → Type 0

@@ -10,7 +10,7 @@ ghost use Rattle.hx_outside.specs.Folders.{Same, contents};
 ghost use Rattle.hx_outside.specs.declared.store.StoreError.TheVariants.{Failed};
 ghost use Rattle.hx_book.specs.Books.{job_of};
 ghost use Rattle.hx_book.specs.Resumable.{done_of};
-ghost use Rattle.hx_book.specs.Slices.{Answers, HasParts, IsSliceCause, IsSliceOf, of_slice, read_alone};
+ghost use Rattle.hx_book.specs.Slices.{Answers, HasParts, IsSliceCause, IsSliceOf, of_slice, read_alone, read_by_head};
 ghost use Rattle.hx_book.specs.declared.slices.SliceError.TheVariants.{Spill, Store as StoreFailed};
 
 #[cfg(test)]
@@ -21,14 +21,15 @@ use crate::files::file_path;
 use crate::job::Job;
 use hx_base::{JobFile, Refusal, Row, SpillRefusal};
 use hx_outside::{Source, Store, StoreError};
+use hx_publish::read_range;
 use hx_spill::{find_slice, head_width, rows_of_slice};
 use std::alloc::Global;
 
-// How many bytes are asked for at once.
-const STEP: usize = 4096;
+// The bytes that are read at first: the head of a file of few partitions fits.
+const FRONT: u64 = 1024;
 
 // The first bytes of a split file, which tell how long its head is.
-const FRONT: u64 = 12;
+const TELLS_WIDTH: u64 = 12;
 
 const ROW_WIDTH: u64 = 28;
 
@@ -55,36 +56,32 @@ impl From<SpillRefusal> for SliceError {
     }
 }
 
-// The bytes of a file from a place on, so many or as many as there are; none of an absent file. Room for them is taken
-// once, at the length that the store gives.
-fn read_range<S: Store>(
+// So many of some bytes, or as many as there are.
+fn first_of(bytes: &[u8], count: u64) -> &[u8]
+    ensures { result.now ≡ take count bytes.now }
+{
+    &bytes[..count.min(bytes.len() as u64) as usize]
+}
+
+// The rows of a part of a file, by the bytes of its head: its own bytes are read, where it has any.
+fn read_by_head<S: Store>(
     alloc: Global,
     store: &mut S,
     name: &str,
-    from: u64,
-    most: u64,
-) -> Result<Vec<u8>, StoreError>
+    part: u32,
+    head: &[u8],
+) -> Result<Vec<Row>, SliceError>
     ensures passes { S.disk.tells store.old → Passes S.disk store.old store.new Same }
-    ensures gives { S.disk.tells store.old → IfOk result (λ bytes. bytes.items ≡ take most (drop from (contents (S.disk.reads store.old name.now)))) }
-    ensures cause { HasStoreCause S.disk.faults store.old store.new result }
+    ensures answers { S.disk.tells store.old → Answers result (read_by_head part head.now (contents (S.disk.reads store.old name.now))) }
+    ensures good { IfOk result (λ rows. All IsGood rows.items) }
+    ensures later { S.disk.faults store.old ≤ S.disk.faults store.new }
+    ensures failed { result ≡ Err (StoreFailed Failed) → Rose (S.disk.faults store.old) (S.disk.faults store.new) }
 {
-    let Some(len) = store.len(name)? else {
+    let Some(place) = find_slice(head, part)? else {
         return Ok(Vec::new(alloc));
     };
-    let whole = most.min(len.saturating_sub(from));
-    let mut bytes = Vec::with_capacity(alloc, whole as usize)?;
-    let mut buf = [0u8; STEP];
-    let mut at = 0;
-    while at < whole {
-        let want = (whole - at).min(STEP as u64) as usize;
-        let count = store.read(name, from + at, &mut buf[..want])?;
-        if count == 0 {
-            break;
-        }
-        bytes.extend_from_slice(&buf[..count])?;
-        at += count as u64;
-    }
-    Ok(bytes)
+    let bytes = read_range(alloc, store, name, place.at, ROW_WIDTH * place.rows)?;
+    Ok(rows_of_slice(alloc, place, &bytes)?)
 }
 
 // The rows of a part of a file, by its head and their own bytes alone.
@@ -101,13 +98,12 @@ fn read_alone<S: Store>(
     ensures failed { result ≡ Err (StoreFailed Failed) → Rose (S.disk.faults store.old) (S.disk.faults store.new) }
 {
     let front = read_range(alloc, store, name, 0, FRONT)?;
-    let width = head_width(&front)?;
+    let width = head_width(first_of(&front, TELLS_WIDTH))?;
+    if width <= FRONT {
+        return read_by_head(alloc, store, name, part, first_of(&front, width));
+    }
     let head = read_range(alloc, store, name, 0, width)?;
-    let Some(place) = find_slice(&head, part)? else {
-        return Ok(Vec::new(alloc));
-    };
-    let bytes = read_range(alloc, store, name, place.at, ROW_WIDTH * place.rows)?;
-    Ok(rows_of_slice(alloc, place, &bytes)?)
+    read_by_head(alloc, store, name, part, &head)
 }
 
 // It as a refusal of the file that was asked for.

@@ -146,7 +146,7 @@ fn an_absent_file_and_a_fault_are_told(rt: HostRuntime) -> Result<(), Fail> {
     let mut store = store_with(alloc, NUMBERS.len(), 0)?;
     let found = read_alone(alloc, &mut store, "other", 2);
     assert!(rt; is_refused(&found, damaged(0)));
-    for call in 0..6 {
+    for call in 0..4 {
         let mut store = store_with(alloc, NUMBERS.len(), 0)?;
         store.fail_calls(&[call])?;
         let found = read_alone(alloc, &mut store, "split", 2);
@@ -154,6 +154,46 @@ fn an_absent_file_and_a_fault_are_told(rt: HostRuntime) -> Result<(), Fail> {
             is_refused(&found, SliceError::Store(StoreError::Failed)),
             "call {call}"
         );
+    }
+    Ok(())
+}
+
+// A split file of so many parts, with one row each.
+fn long_file(alloc: Global, parts: u32) -> Result<Vec<u8>, AllocError> {
+    let mut numbers = Vec::new(alloc);
+    numbers.push((8, u64::from(parts)))?;
+    for part in 0..parts {
+        numbers.push((4, u64::from(part)))?;
+        numbers.push((8, u64::from(part)))?;
+        numbers.push((8, 1))?;
+    }
+    for part in 0..parts {
+        numbers.push((8, u64::from(part)))?;
+        numbers.push((8, 7))?;
+        numbers.push((4, 1_000_000_000))?;
+        numbers.push((4, 0))?;
+        numbers.push((4, 0))?;
+    }
+    split_file(alloc, &numbers)
+}
+
+// The longest head that is among the bytes read at first, and longer ones. A part that isn't there takes two calls or four.
+#[test]
+fn long_heads_are_read_whole(rt: HostRuntime) -> Result<(), Fail> {
+    let alloc = rt.alloc();
+    for (parts, wanted) in [(50, 2), (51, 4), (300, 4)] {
+        let mut store = MemStore::new(alloc);
+        store.put("split", &long_file(alloc, parts)?)?;
+        for part in [0, 1, 49] {
+            let found = read_alone(alloc, &mut store, "split", part);
+            let alone = row(u64::from(part), 7, 1_000_000_000, 0, 0);
+            assert!(rt; are_rows(&found, &[alone]), "part {part} of {parts}");
+        }
+        let before = store.calls();
+        let found = read_alone(alloc, &mut store, "split", parts);
+        assert!(rt; are_rows(&found, &[]));
+        let calls = store.calls().saturating_sub(before);
+        assert_eq!(rt; calls, wanted, "{parts} parts");
     }
     Ok(())
 }
