@@ -1,5 +1,5 @@
 -- Pairs that come by ascending pixels.
-use Rattle.std.proofs.Common.{◌≡◌, ◌∙◌, ◌+◌, ◌*◌, ◌^◌, ◌<◌, ◌≤◌, ◌∷◌, ◌++◌, ◌==◌, [], ℕ, List, if◌then◌else◌, length, sym, ap, arith, refl, append_assoc, ◌&&◌, nat_le, nat_lt, Bool, true, Option, Some, None, Ok}
+use Rattle.std.proofs.Common.{◌≡◌, ◌∙◌, ◌+◌, ◌*◌, ◌^◌, ◌<◌, ◌≤◌, ◌∷◌, ◌++◌, ◌==◌, [], ℕ, List, length, sym, ap, arith, refl, append_assoc, ◌&&◌, nat_le, nat_lt, Bool, true, Option, Some, None, Ok}
 use Rattle.std.specs.List.{All, flat_map, list_all}
 use Rattle.std.specs.Prelude.{codes}
 use Rattle.byteorder.specs.Endian.{little_bytes, little_number}
@@ -11,33 +11,12 @@ use Rattle.std.proofs.Math.Path.{fun_ext}
 use Rattle.std.proofs.lemmas.Bool.{eq-eqb, le-leb, lt-ltb, ltb-true}
 use Rattle.std.proofs.lemmas.List.Sums.{AllPass-from_list_all, get_or-le-sum_by, list_all-from_AllPass}
 use Rattle.std.proofs.lemmas.Bool.Decides.{nat_tests}
-use Rattle.std.proofs.lemmas.List.Elements.{All-append}
-use Rattle.std.proofs.lemmas.List.Quantifiers.{all_pairs_push}
-use Rattle.hx_hist.proofs.Counts.{count_at-append}
-use Rattle.hx_hist.specs.Histograms.{Histogram, IsHistogram, count_at, total_of}
+use Rattle.hx_hist.specs.Histograms.{Histogram, IsHistogram, total_of}
 use Rattle.hx_spill.specs.Items.{each, mark}
 use Rattle.hx_spill.specs.Maps.{AreCounted, bytes_of_map, bytes_of_pair, head_of_map, map_in, pair_at, pair_behind, place_of_pair}
 use Rattle.hx_spill.proofs.Each.{each-length, ends-more}
 use Rattle.hx_spill.proofs.Written.{all_at, all_before, both, each-there, entry_there, length-little, item_there, number_there, place_there}
 use Rattle.hx_hist.specs.declared.hist.Pair.{Pair}
-
-same_counts : (a b n : ℕ) → (if a == b then n else 0) ≡ (if b == a then n else 0)
-same_counts a b n = grind (arith, nat_tests)
-
-alone : (p : ℕ) (pair : Pair) → count_at p (pair ∷ []) ≡ (if p == pair.pixel then pair.count else 0)
-alone p pair = grind (arith, nat_tests)
-
--- a pair behind all others is one more of the histogram
-pub pushed : (order : ℕ) (old new : List Pair) (pair : Pair) → All (λ other. other.pixel < pair.pixel) old → 0 < pair.count → pair.pixel < 12 * 4 ^ order
-    → IsHistogram order old → IsHistogram order new → ((p : ℕ) → count_at p new ≡ count_at p old + (if p == pair.pixel then pair.count else 0))
-    → ((xs ys : List Pair) → IsHistogram order xs → IsHistogram order ys → ((p : ℕ) → count_at p xs ≡ count_at p ys) → xs ≡ ys) → new ≡ old ++ pair ∷ []
-pushed order old new pair below some within is_old is_new counts same =
-    let more : IsHistogram order (old ++ pair ∷ []) = record {
-      ascending = all_pairs_push (λ a b. a.pixel < b.pixel) old pair is_old.ascending below;
-      counted = All-append (λ x. 0 < x.count) old (pair ∷ []) is_old.counted (λ k d lt. grind arith);
-      range = All-append (λ x. x.pixel < 12 * 4 ^ order) old (pair ∷ []) is_old.range (λ k d lt. grind arith);
-    } in
-    same new (old ++ pair ∷ []) is_new more (λ p. counts p ∙ sym (count_at-append p old (pair ∷ []) ∙ ap (λ n. count_at p old + n) (alone p pair)))
 
 -- what comes behind some pairs is what begins at their greatest pixel's next
 pub same_entry : (order n least at : ℕ) (bytes : List ℕ) (pairs : List Pair) → each n (pair_behind order bytes) ≡ Ok pairs → at ≡ place_of_pair n

@@ -73,11 +73,3 @@ all_at P xs before x after is each =
     let all : All P (before ++ x ∷ after) = rw is at each in
     let long : length before < length (before ++ x ∷ after) = omega (arith, length-append before (x ∷ after)) in
     rw (get_or-append_seam before x after x) at (all (length before) x long)
-
--- five parts written one after another
-pub five : (start a b c d e s1 s2 s3 s4 s5 : List ℕ) → s1 ≡ start ++ a → s2 ≡ s1 ++ b → s3 ≡ s2 ++ c → s4 ≡ s3 ++ d → s5 ≡ s4 ++ e → s5 ≡ start ++ (a ++ b ++ c ++ d ++ e)
-five start a b c d e s1 s2 s3 s4 s5 e1 e2 e3 e4 e5 =
-    let two = e2 ∙ ap (λ (s : List ℕ). s ++ b) e1 ∙ append_assoc start a b in
-    let three = e3 ∙ ap (λ (s : List ℕ). s ++ c) two ∙ append_assoc start (a ++ b) c in
-    let four = e4 ∙ ap (λ (s : List ℕ). s ++ d) three ∙ append_assoc start (a ++ b ++ c) d in
-    e5 ∙ ap (λ (s : List ℕ). s ++ e) four ∙ append_assoc start (a ++ b ++ c ++ d) e

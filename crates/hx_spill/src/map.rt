@@ -10,7 +10,7 @@ ghost use Rattle.hx_hist.specs.declared.hist.Pair.{Pair};
 use crate::items::{ended, kept, mark, u32_at, u64_at};
 use crate::writing::{push_u32, push_u64};
 use hx_base::{MOST_ROWS, SpillRefusal, pixels_of_order};
-use hx_hist::{Hist, Pair, histograms_are_counts};
+use hx_hist::{Hist, Pair};
 use std::alloc::{AllocError, Global};
 
 const MARK: [u8; 4] = *b"HXM1";
@@ -41,22 +41,6 @@ fn pair_at(bytes: &[u8], at: usize, order: u8, least: u64) -> Result<Pair, Spill
     Ok(Pair { pixel, count })
 }
 
-// Puts a pair behind all others.
-fn push_pair(hist: &mut Hist, pair: Pair) -> Result<(), AllocError>
-    requires below { All (λ other. other.pixel < pair.pixel) hist.old.pairs }
-    requires some { 0 < pair.count }
-    requires pixel { pair.pixel < 12 * 4 ^ hist.old.order }
-    requires total { total_of hist.old.pairs + pair.count < 2 ^ 64 }
-    ensures order { hist.new.order ≡ hist.old.order }
-    ensures pairs { OnOk result (hist.new.pairs ≡ hist.old.pairs ++ pair ∷ []) }
-{
-    histograms_are_counts();
-    let _before = hist.pairs();
-    hist.add(pair.pixel, pair.count)?;
-    let _after = hist.pairs();
-    Ok(())
-}
-
 // Counts a pair behind all others towards a number of rows, of which so many are left; None once they are too many.
 fn count_pair(hist: &mut Hist, left: Option<u64>, pair: Pair) -> Result<Option<u64>, AllocError>
     requires below { IsSome left → All (λ other. other.pixel < pair.pixel) hist.old.pairs }
@@ -69,7 +53,7 @@ fn count_pair(hist: &mut Hist, left: Option<u64>, pair: Pair) -> Result<Option<u
 {
     match left {
         Some(rows) if pair.count <= rows => {
-            push_pair(hist, pair)?;
+            hist.push(pair)?;
             Ok(Some(rows - pair.count))
         }
         _ => Ok(None),
@@ -165,11 +149,22 @@ fn total_of(pairs: &[Pair]) -> u64
 }
 
 #[inline]
+fn bytes_of_pair(pair: Pair) -> [u8; 16]
+    ensures { result ≡ bytes_of_pair pair }
+{
+    let p = pair.pixel.to_le_bytes();
+    let n = pair.count.to_le_bytes();
+    [
+        p[0], p[1], p[2], p[3], p[4], p[5], p[6], p[7], n[0], n[1], n[2], n[3], n[4], n[5], n[6],
+        n[7],
+    ]
+}
+
+#[inline]
 fn push_bytes_of_pair(bytes: &mut Vec<u8>, pair: Pair) -> Result<(), AllocError>
     ensures { OnOk result (bytes.new.items ≡ bytes.old.items ++ bytes_of_pair pair) }
 {
-    push_u64(bytes, pair.pixel)?;
-    push_u64(bytes, pair.count)
+    bytes.extend_from_slice(&bytes_of_pair(pair))
 }
 
 fn push_pairs(bytes: &mut Vec<u8>, pairs: &[Pair]) -> Result<(), AllocError>

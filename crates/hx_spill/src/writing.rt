@@ -1,7 +1,6 @@
 //! Numbers as a file has them, the lowest byte first.
 ghost use Rattle.std.specs.Prelude.{◌≡◌, ◌++◌, OnOk};
 ghost use Rattle.byteorder.specs.Endian.{little_bytes};
-ghost use Rattle.std.specs.Int.{w32, w64, cast_unsigned};
 
 use std::alloc::AllocError;
 
@@ -15,20 +14,6 @@ pub fn push_u32(bytes: &mut Vec<u8>, n: u32) -> Result<(), AllocError>
 #[inline]
 pub fn push_u64(bytes: &mut Vec<u8>, n: u64) -> Result<(), AllocError>
     ensures { OnOk result (bytes.new.items ≡ bytes.old.items ++ little_bytes 8 n) }
-{
-    bytes.extend_from_slice(&n.to_le_bytes())
-}
-
-#[inline]
-pub fn push_i32(bytes: &mut Vec<u8>, n: i32) -> Result<(), AllocError>
-    ensures { OnOk result (bytes.new.items ≡ bytes.old.items ++ little_bytes 4 (cast_unsigned w32 n)) }
-{
-    bytes.extend_from_slice(&n.to_le_bytes())
-}
-
-#[inline]
-pub fn push_i64(bytes: &mut Vec<u8>, n: i64) -> Result<(), AllocError>
-    ensures { OnOk result (bytes.new.items ≡ bytes.old.items ++ little_bytes 8 (cast_unsigned w64 n)) }
 {
     bytes.extend_from_slice(&n.to_le_bytes())
 }

@@ -10,7 +10,6 @@ ghost use Rattle.hx_spill.specs.Splits.{IsHead, RowFits, bytes_of_row, bytes_of_
 use super::Placed;
 use super::head::{ENTRIES_PLACE, ENTRY_WIDTH, ROW_WIDTH, entry_at, place_of_entry};
 use crate::items::{from_place, kept, push};
-use crate::writing::{push_i32, push_i64, push_u64};
 use byteorder::{ByteOrder, LittleEndian};
 use hx_base::{Row, SpillRefusal, compare_rows};
 use std::alloc::{AllocError, Global};
@@ -157,18 +156,29 @@ pub fn check_slices(bytes: &[u8], n: u64) -> Result<(), SpillRefusal>
     Ok(())
 }
 
+#[inline]
+fn bytes_of_row(row: Row) -> [u8; 28]
+    ensures { result ≡ bytes_of_row row }
+{
+    let hp = row.hp.to_le_bytes();
+    let id = row.id.to_le_bytes();
+    let x = row.x.to_le_bytes();
+    let y = row.y.to_le_bytes();
+    let z = row.z.to_le_bytes();
+    [
+        hp[0], hp[1], hp[2], hp[3], hp[4], hp[5], hp[6], hp[7], id[0], id[1], id[2], id[3], id[4],
+        id[5], id[6], id[7], x[0], x[1], x[2], x[3], y[0], y[1], y[2], y[3], z[0], z[1], z[2],
+        z[3],
+    ]
+}
+
 // A row's bytes, which have room for its numbers.
 #[inline]
 fn push_row(bytes: &mut Vec<u8>, row: Row) -> Result<(), AllocError>
     ensures bytes { OnOk result (bytes.new.items ≡ bytes.old.items ++ bytes_of_row row) }
     ensures fits { RowFits row }
 {
-    push_u64(bytes, row.hp)?;
-    push_i64(bytes, row.id)?;
-    push_i32(bytes, row.x)?;
-    push_i32(bytes, row.y)?;
-    push_i32(bytes, row.z)?;
-    Ok(())
+    bytes.extend_from_slice(&bytes_of_row(row))
 }
 
 /// The bytes of rows.
