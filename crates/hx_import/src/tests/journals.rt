@@ -10,10 +10,10 @@ use std::test::Fail;
 /// it, and five that open it then.
 pub(super) const NEW: u64 = 12;
 
-/// The calls by which a journal of up to 4096 bytes is opened: its sync, its length, a read, its cut, its sync.
+/// The calls by which a journal that stands is opened: its sync, its length, a read, its cut, its sync.
 pub(super) const OPENED: u64 = 5;
 
-/// The calls by which a file of up to 4096 bytes is read: its length and a read.
+/// The calls by which a file is read that one read gives whole: its length and the read.
 pub(super) const READ: u64 = 2;
 
 /// The most calls of a task.
@@ -80,12 +80,12 @@ pub(super) fn recorded(rt: &impl Abort, sky: Sky, store: &MemStore) -> usize {
     let Some(blocks) = blocks_in(rt, sky, store) else {
         return 0;
     };
-    let mut count = 0;
+    let mut count = 0usize;
     for block in blocks.chunks(33) {
         if block.first() != Some(&1) {
             break;
         }
-        count += 1;
+        count = count.saturating_add(1);
     }
     count
 }
