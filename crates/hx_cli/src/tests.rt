@@ -1,6 +1,7 @@
 //! The top call over sources and sinks in memory. The expected texts are counted by hand.
 mod around;
 mod folders;
+mod imports;
 mod matches;
 mod parquet;
 mod plan;

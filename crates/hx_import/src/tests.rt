@@ -1,5 +1,10 @@
 //! Folders cleaned, with and without a journal, and crashes within.
+mod damaging;
 mod importing;
+mod journals;
+mod refusing;
+mod skies;
+mod stopping;
 
 use crate::clean;
 use hx_base::{JobFile, Name, Refusal};

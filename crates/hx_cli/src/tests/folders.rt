@@ -10,13 +10,14 @@ const HEADER: &[u8] = b"id,_healpix_29,cx,cy,cz\n";
 
 pub(super) const SEVEN: &[u8] = b"id,_healpix_29,cx,cy,cz\n7,0,1000000000,0,0\n";
 
-const SEVEN_TWICE: &[u8] = b"id,_healpix_29,cx,cy,cz\n7,0,1000000000,0,0\n7,0,1000000000,0,0\n";
+pub(super) const SEVEN_TWICE: &[u8] =
+    b"id,_healpix_29,cx,cy,cz\n7,0,1000000000,0,0\n7,0,1000000000,0,0\n";
 
 // Order-1 pixels 3, 7 and 4.
-const THREE: &[u8] =
+pub(super) const THREE: &[u8] =
     b"id,_healpix_29,cx,cy,cz\n1,216172782113783808,1000000000,0,0\n2,504403158265495552,1000000000,0,0\n3,288230376151711744,1000000000,0,0\n";
 
-const IMPORT_THREE: &str = "import --highest 0 --margin-order 1 t a.csv";
+pub(super) const IMPORT_THREE: &str = "import --highest 0 --margin-order 1 t a.csv";
 
 /// Runs a line over these inputs and a folder.
 pub(super) fn run_line(

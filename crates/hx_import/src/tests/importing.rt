@@ -1,17 +1,14 @@
 //! Imports by one worker: their catalogues, their refusals, and crashes within.
-ghost use Rattle.std.specs.Prelude.{◌≡◌, ◌≤◌, ◌+◌, All, IfOk, length, map};
-ghost use Rattle.hx_base.specs.FileWords.{IsFileWord};
+ghost use Rattle.std.specs.Prelude.{IfOk};
 ghost use Rattle.hx_base.specs.Limits.{FitsLimits};
 
+use super::skies::{input, settings_of, with};
 use crate::import_one;
-use hx_base::{Name, Refusal, Settings, is_file_word};
+use hx_base::{Refusal, Settings};
 use hx_book::Closed;
 use hx_mem::{MemSource, MemStore};
-use hx_outside::Source;
 use std::alloc::Global;
 use std::test::Fail;
-
-const HEADER: &str = "id,_healpix_29,cx,cy,cz\n";
 
 // The files of a catalogue of two partitions.
 const FILES: [&str; 8] = [
@@ -28,40 +25,7 @@ const FILES: [&str; 8] = [
 fn settings(alloc: Global, highest: u8, threshold: u64) -> Result<Settings, Fail>
     ensures { IfOk result FitsLimits }
 {
-    let settings = Settings {
-        name: Name::new(alloc, "t")?.ok_or("no name")?,
-        lowest: 0,
-        highest,
-        threshold,
-        margin_order: highest.saturating_add(1),
-    };
-    if !settings.fits() {
-        return Err("settings".into());
-    }
-    Ok(settings)
-}
-
-// An input of rows with these ids and positions, all with one vector.
-fn input(alloc: Global, name: &str, rows: &[(u32, u64)]) -> Result<MemSource, Fail> {
-    let mut text = String::from_str(alloc, HEADER)?;
-    for (id, hp) in rows {
-        writeln!(text, "{id},{hp},1000000000,0,0")?;
-    }
-    Ok(MemSource::new(alloc, name, text.as_str().as_bytes())?)
-}
-
-// Inputs with one more.
-fn with<Src: Source>(inputs: Vec<Src>, source: Src) -> Result<Vec<Src>, Fail>
-    requires words { All IsFileWord (map Src.source.label inputs.items) }
-    ensures words { IfOk result (λ more. All IsFileWord (map Src.source.label more.items)) }
-    ensures long { IfOk result (λ more. length more.items ≡ length inputs.items + 1) }
-{
-    if !is_file_word(source.name()) {
-        return Err("no file word".into());
-    }
-    let mut inputs = inputs;
-    inputs.push(source)?;
-    Ok(inputs)
+    settings_of(alloc, 0, highest, threshold, highest.saturating_add(1))
 }
 
 // An input with one row of the partition 0 that lies next to the other partition, and one next to it there.

@@ -1,7 +1,7 @@
 use Rattle.std.proofs.Common.{rules}
 use Rattle.hx_base.specs.FileWords.{IsFileWord}
 use Rattle.hx_import.proofs.Tested.{one-more}
-use Rattle.hx_import.proofs.tests.importing.with.Goals as goal
+use Rattle.hx_import.proofs.tests.skies.with.Goals as goal
 
 pub returns-clause-words : goal.returns-clause-words
 returns-clause-words g c =
