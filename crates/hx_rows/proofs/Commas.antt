@@ -1,12 +1,11 @@
 -- Words of eight bytes: how many bytes above the comma stand at the front.
-use Rattle.std.proofs.Common.{false, not, nat_lt, ◌≡◌, ◌<◌, ◌≤◌, ◌+◌, ◌-◌, ◌*◌, ◌/◌, ◌%◌, ◌^◌, ◌∙◌, ◌∷◌, ◌++◌, [], List, ℕ, ap, arith, bit_and, bit_or, bit_xor, drop, get_or, length, length-drop, map, refl, replicate, suc, sym, take, take-add, drop-drop, true, w64, zero}
+use Rattle.std.proofs.Common.{nat_lt, ◌≡◌, ◌<◌, ◌≤◌, ◌+◌, ◌-◌, ◌*◌, ◌/◌, ◌%◌, ◌^◌, ◌∙◌, ◌∷◌, ◌++◌, [], List, ℕ, ap, arith, bit_and, bit_or, bit_xor, drop, get_or, length, length-drop, map, refl, suc, sym, take, take-add, drop-drop, true, w64, zero}
 use lib.Bits.{and_le_r}
 use lib.Count.{count_trailing_zeros}
-use Rattle.std.proofs.lemmas.Bool.{agree_below_at, cases_lt, lt-ltb, ltb-true}
+use Rattle.std.proofs.lemmas.Bool.{agree_below_at, lt-ltb, ltb-true}
 use Rattle.std.proofs.lemmas.List.{take_all, take-take}
-use Rattle.std.proofs.lemmas.Nat.{or_block, or_lt, xor_lt}
+use Rattle.std.proofs.lemmas.Nat.{or_block, or_lt}
 use Rattle.std.proofs.lemmas.Nat.Bits.{bit_at-trailing_zeros, bit_at-zero}
-use Rattle.std.specs.List.{AllByRecursion}
 use Rattle.hx_rows.specs.Numbers.{IsWordOf}
 use Rattle.hx_rows.proofs.Lines.{AboveComma}
 use Rattle.hx_rows.proofs.Words.{Below, and-each, num, xor-each}
