@@ -2,6 +2,7 @@ pub mod Across
 pub mod Asked
 pub mod Collecting
 pub mod Columns
+pub mod Commas
 pub mod Few
 pub mod Indices
 pub mod Lengths

@@ -10,21 +10,21 @@ use Rattle.hx_rows.specs.Numbers.{IsWordOf}
 use Rattle.hx_rows.proofs.Spelling.{digit-range, digit-value}
 
 -- lanes of k bits, the lowest first
-num : ℕ → List ℕ → ℕ
+unfoldable pub num : ℕ → List ℕ → ℕ
 num k [] = 0
 num k (x ∷ xs) = num k xs * 2 ^ k + x
 
-Below : ℕ → List ℕ → Type 0
+unfoldable pub Below : ℕ → List ℕ → Type 0
 Below k [] = Unit {0}
 Below k (x ∷ xs) = (x < 2 ^ k) × Below k xs
 
-and-each : (k m : ℕ) (xs : List ℕ) → m < 2 ^ k → Below k xs → bit_and (num k xs) (num k (replicate (length xs) m)) ≡ num k (map (λ x. bit_and x m) xs)
+pub and-each : (k m : ℕ) (xs : List ℕ) → m < 2 ^ k → Below k xs → bit_and (num k xs) (num k (replicate (length xs) m)) ≡ num k (map (λ x. bit_and x m) xs)
 unfolding num Below
 and-each k m [] small below = refl
 and-each k m (x ∷ xs) small below =
     and_block k (num k xs) (num k (replicate (length xs) m)) x m below.0 small ∙ ap (λ n. n * 2 ^ k + bit_and x m) (and-each k m xs small below.1)
 
-xor-each : (k m : ℕ) (xs : List ℕ) → m < 2 ^ k → Below k xs → bit_xor (num k xs) (num k (replicate (length xs) m)) ≡ num k (map (λ x. bit_xor x m) xs)
+pub xor-each : (k m : ℕ) (xs : List ℕ) → m < 2 ^ k → Below k xs → bit_xor (num k xs) (num k (replicate (length xs) m)) ≡ num k (map (λ x. bit_xor x m) xs)
 unfolding num Below
 xor-each k m [] small below = refl
 xor-each k m (x ∷ xs) small below =

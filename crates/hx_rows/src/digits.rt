@@ -13,8 +13,8 @@ const ZERO: u64 = 0x30;
 
 const ZEROS: u64 = 0x3030_3030_3030_3030;
 
-// The highest bit of each byte, and what takes a byte from 10 on up to that bit.
-const HIGH_BITS: u64 = 0x8080_8080_8080_8080;
+/// The highest bit of each byte, and what takes a byte from 10 on up to that bit.
+pub(crate) const HIGH_BITS: u64 = 0x8080_8080_8080_8080;
 
 const TO_HIGH_BITS: u64 = 0x7676_7676_7676_7676;
 

@@ -11,12 +11,30 @@ ghost use Rattle.hx_rows.specs.Reading.{Reads};
 ghost use Rattle.hx_rows.specs.Rows.{rows_from};
 ghost use Rattle.hx_rows.specs.Unread.{unread_from};
 
+use crate::digits::HIGH_BITS;
 use crate::header::Header;
 use crate::read::RowRefusal;
 use crate::record::row_of_record;
 use crate::rows::{push_row, refused};
 use hx_base::Row;
 use std::alloc::Global;
+
+// The low seven bits of each byte, and what takes those of a byte above the comma up to the highest.
+const LOW_BITS: u64 = 0x7F7F_7F7F_7F7F_7F7F;
+
+const ABOVE_COMMA: u64 = 0x5353_5353_5353_5353;
+
+// How many bytes above the comma stand at the front of eight.
+#[inline(always)]
+fn first_above(text: &[u8; 8]) -> usize
+    ensures few { result ≤ 8 }
+    ensures run { AllByRecursion (λ byte. 44 < byte) (take result text.now) }
+{
+    let word = u64::from_le_bytes(*text);
+    let above = (word & LOW_BITS).wrapping_add(ABOVE_COMMA) | word;
+    let ends = (above & HIGH_BITS) ^ HIGH_BITS;
+    ends.trailing_zeros() as usize / 8
+}
 
 // Where the bytes above the comma end that stand from a place on.
 #[inline(always)]
@@ -26,7 +44,15 @@ fn run_end(text: &[u8], from: usize) -> usize
     ensures end { result ≤ length text.now }
     ensures run { AllByRecursion (λ byte. 44 < byte) (take (result - from) (drop from text.now)) }
 {
-    'run: for i in from..text.len() {
+    let mut end = from;
+    'words: while let Some(front) = text[end..].first_chunk::<8>() {
+        let above = first_above(front);
+        end += above;
+        if above < 8 {
+            return end;
+        }
+    }
+    'run: for i in end..text.len() {
         if text[i] <= b',' {
             return i;
         }
