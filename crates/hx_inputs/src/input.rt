@@ -15,7 +15,7 @@ use hx_rows::{RowRefusal, read_rows};
 use std::alloc::{AllocError, Global};
 
 // So many bytes are asked for at a time.
-const PIECE: usize = 65536;
+const PIECE: usize = 16384;
 
 fn zeros(alloc: Global, count: usize) -> Result<Vec<u8>, AllocError>
     ensures { IfOk result (λ v. vec_len v ≡ count) }

@@ -108,7 +108,7 @@ fn source_without_bytes(rt: HostRuntime) -> Result<(), Fail> {
 // A source that tells nothing of its bytes and ends before its length: those that it gave are kept.
 #[test]
 fn bytes_before_an_early_end(rt: HostRuntime) -> Result<(), Fail> {
-    for held in [0, 1, 12, 65_536, 70_000] {
+    for held in [0, 1, 12, 16_384, 16_385, 70_000] {
         let mut source = blank_of(rt.alloc(), Some(200_000), held)?;
         let bytes = read_all(rt.alloc(), &mut source, 7)?;
         assert_eq!(rt; bytes.len() as u64, held);
