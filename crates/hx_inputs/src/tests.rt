@@ -120,10 +120,10 @@ fn bytes_before_an_early_end(rt: HostRuntime) -> Result<(), Fail> {
 #[test]
 fn bytes_in_pieces(rt: HostRuntime) -> Result<(), Fail> {
     let alloc = rt.alloc();
-    let mut source = MemSource::new(alloc, "a.csv", &vec![in alloc; b'x'; 70_000]?)?;
+    let mut source = MemSource::new(alloc, "a.csv", &vec![in alloc; b'x'; 20_000]?)?;
     // The length and two reads: each of them fails once.
     source.fail_calls(&[3, 5, 8])?;
-    for answer in [Ok(70_000), Err(FAULT), Err(FAULT), Err(FAULT), Ok(70_000)] {
+    for answer in [Ok(20_000), Err(FAULT), Err(FAULT), Err(FAULT), Ok(20_000)] {
         assert_eq!(rt; bytes(alloc, &mut source), answer);
     }
     Ok(())
