@@ -26,7 +26,7 @@ use Rattle.hx_book.specs.Tasks.{AreParts, GoesByParts, IsCut, IsTask, JobData, t
 use Rattle.hx_book.specs.Values.{IsFileOf, OfCut}
 use Rattle.hx_book.proofs.Ones.{cut_plans, cut_rows, parts_same}
 use Rattle.hx_book.proofs.Parts.{count_by_parts}
-use Rattle.hx_import.specs.Given.{AreOfInput, IsCutFor}
+use Rattle.hx_import.specs.Given.{AreOfInput, HasAskedOrder, IsCutFor}
 use Rattle.hx_import.specs.Made.{IsRefused, refusal_of}
 use Rattle.hx_import.proofs.Inputs.{is_bad, one_input, rows_are}
 
@@ -45,17 +45,20 @@ cut_read job bytes plan value reads =
     let same : value.plan ≡ plan = cc both in
     (value.all, subst (IsCut job value.all) same value.cut)
 
--- a plan's orders are below the margin order
-pub orders_of_cut : (job : JobData) (all : List Row) (plan : List PlanRow) → FitsLimits job.settings → IsCut job all plan → All (λ part. part.order < job.settings.margin_order) (pixels_of plan)
+-- a plan's orders are those that were asked for
+pub orders_of_cut : (job : JobData) (all : List Row) (plan : List PlanRow) → FitsLimits job.settings → IsCut job all plan → All (HasAskedOrder job.settings) (pixels_of plan)
 orders_of_cut job all plan limits cut = λ i d less.
     let is = (cut.planned.partitions.partitions.exact (get_or (pixels_of plan) i d)).0 (Contains-get_or (pixels_of plan) i d less) in
-    omega (arith, is.not_higher, limits.margin_least)
+    record { not_lower = is.not_lower; not_higher = is.not_higher; below = omega (arith, is.not_higher, limits.margin_least) }
 
-pub below_margin : (j : JobMembers) (s : Settings) → s ≡ j.settings → FitsLimits s → (bytes : List ℕ) (plan : List PlanRow) → IsFileOf (job_of j) bytes file.Plan → plan_in bytes ≡ Ok plan
-    → All (λ part. part.order < s.margin_order) (pixels_of plan)
-below_margin j s same fits bytes plan value reads =
+pub asked_orders : (j : JobMembers) (s : Settings) → s ≡ j.settings → FitsLimits s → (bytes : List ℕ) (plan : List PlanRow) → IsFileOf (job_of j) bytes file.Plan → plan_in bytes ≡ Ok plan
+    → All (HasAskedOrder s) (pixels_of plan)
+asked_orders j s same fits bytes plan value reads =
     let (all, cut) = cut_read (job_of j) bytes plan value reads in
-    subst (λ (t : Settings). All (λ part. part.order < t.margin_order) (pixels_of plan)) (sym same) (orders_of_cut (job_of j) all plan (subst FitsLimits same fits) cut)
+    subst (λ (t : Settings). All (HasAskedOrder t) (pixels_of plan)) (sym same) (orders_of_cut (job_of j) all plan (subst FitsLimits same fits) cut)
+
+pub below_margin : (s : Settings) (parts : List Pixel) → All (HasAskedOrder s) parts → All (λ part. part.order < s.margin_order) parts
+below_margin s parts asked = λ i d less. (asked i d less).below
 
 pub cut_for : (j : JobMembers) (bytes : List ℕ) (plan : List PlanRow) (parts : List Pixel) → parts ≡ pixels_of plan → All (λ part. part.order < j.settings.margin_order) (pixels_of plan)
     → plan_in bytes ≡ Ok plan → (j.premises → IsFileOf (job_of j) bytes file.Plan) → IsCutFor j plan parts

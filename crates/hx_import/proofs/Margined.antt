@@ -1,6 +1,7 @@
 -- The files of a partition's rows in margins, and of its margin.
 use Rattle.std.proofs.Common.{◌≡◌, ◌<◌, ◌≤◌, ◌==◌, ◌*◌, ◌^◌, ◌∷◌, ◌∙◌, ℕ, suc, List, [], Some, Ok, Err, All, IfOk, get_or, length, slice_get, refl, sym, ap, subst, arith, inl, inr}
 use Rattle.std.specs.List.{Any}
+use Rattle.std.specs.List.Sorted.{IsSorted}
 use Rattle.std.proofs.lemmas.Bool.{cases_Bool}
 use Rattle.std.proofs.lemmas.Bool.Decides.{Decides-eqb}
 use Rattle.hx_align.specs.Plans.{pixels_of}
@@ -9,7 +10,7 @@ use Rattle.hx_base.specs.Contents.{AreMarginRows, partition_rows}
 use Rattle.hx_base.specs.Limits.{FitsLimits, most_rows}
 use Rattle.hx_base.specs.Partitions.{ArePartitions, NothingOverfull, holders_of}
 use Rattle.hx_base.specs.Pixels.{AreDisjointInOrder, HoldsPosition, PixelContains, count_in, pixel_of}
-use Rattle.hx_base.specs.Rows.{IsGood, sorted_rows}
+use Rattle.hx_base.specs.Rows.{IsGood, row_cmp, sorted_rows}
 use Rattle.hx_base.specs.declared.pixel.Pixel.{Pixel}
 use Rattle.hx_base.specs.declared.refusal.JobFile.TheVariants as file
 use Rattle.hx_base.specs.declared.row.Row.{Row}
@@ -65,6 +66,16 @@ module _ (j : JobMembers) (number : ℕ) (part : Pixel) (bytes : List ℕ) (rows
               (subst (λ (rs : List Row). IsMarginSplitFile parts j.settings.margin_order rs made) (rows_of_part p) is);
         };
       }
+
+  -- they ascend
+  pub ascending : j.premises → IsSorted row_cmp rows
+  unfolding IsFileOf
+  ascending p =
+      let (all, is_cut) = cut.cut p in
+      let own = of_these (job_of j) (λ all plan. OfPart plan number (λ part. HasRows (partition_rows part all) bytes)) all plan is_cut (value p) in
+      let both : Ok rows ≡ Ok (partition_rows own.part all) = sym reads ∙ own.holds.read in
+      let is : rows ≡ partition_rows own.part all = cc both in
+      subst (IsSorted row_cmp) (sym is) own.holds.ascending
 
   -- and the partition contains them
   pub all_contained : j.premises → All (PixelContains part) rows

@@ -5,7 +5,7 @@ ghost use Rattle.hx_base.specs.declared.refusal.JobFile.TheVariants.{Plan as Pla
 ghost use Rattle.hx_book.specs.Books.{job_of};
 ghost use Rattle.hx_book.specs.Tasks.{GoesByParts, IsTask};
 ghost use Rattle.hx_book.specs.Values.{IsFileOf};
-ghost use Rattle.hx_import.specs.Given.{IsCutFor};
+ghost use Rattle.hx_import.specs.Given.{HasAskedOrder, IsCutFor};
 ghost use Rattle.hx_import.specs.Made.{IsUnread};
 
 use crate::tasks::damaged;
@@ -23,18 +23,28 @@ pub struct Cut {
     pub tree: PixelTree,
 }
 
-// Whether the orders of partitions are below the margin order.
-fn are_below(parts: &[Pixel], margin_order: u8) -> bool
-    ensures { IsTrue result ↔ All (λ part. part.order < margin_order) parts.now }
+// Whether the order of a partition lies within the asked ones, and below the margin order.
+fn is_asked(part: Pixel, settings: &Settings) -> bool
+    ensures { IsTrue result ↔ HasAskedOrder settings.now part }
 {
-    parts.iter().all(|part| part.order < margin_order)
+    settings.lowest <= part.order
+        && part.order <= settings.highest
+        && part.order < settings.margin_order
+}
+
+// Whether those of all partitions do.
+fn are_asked(parts: &[Pixel], settings: &Settings) -> bool
+    ensures { IsTrue result ↔ All (HasAskedOrder settings.now) parts.now }
+{
+    parts.iter().all(|part| is_asked(*part, settings))
 }
 
 /// The job's partitions, by the plan's file.
 ///
 /// # Errors
 ///
-/// `Damaged`, which under the premises never comes, and `Memory`.
+/// `Damaged`, where the file isn't a plan, or where an order isn't within the asked ones; under the premises it never
+/// comes. `Memory`.
 pub fn read_cut<J: Job>(alloc: Global, bytes: &[u8], settings: &Settings) -> Result<Cut, Refusal>
     requires settings { settings.now ≡ J.of.settings }
     requires fits { FitsLimits settings.now }
@@ -48,7 +58,7 @@ pub fn read_cut<J: Job>(alloc: Global, bytes: &[u8], settings: &Settings) -> Res
         Err(SpillRefusal::Memory) => return Err(Refusal::Memory),
     };
     let _rows = plan.rows();
-    if !are_below(plan.pixels(), settings.margin_order) {
+    if !are_asked(plan.pixels(), settings) {
         return Err(damaged(JobFile::Plan, 0));
     }
     let tree = PixelTree::build(alloc, plan.pixels())?;

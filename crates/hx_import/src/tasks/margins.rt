@@ -17,6 +17,7 @@ use crate::tasks::cutting::Cut;
 use crate::tasks::damaged;
 use hx_base::{JobFile, MOST_ROWS, Pixel, Refusal, Row, Settings, partitions_of_rows};
 use hx_book::Job;
+use hx_catalog::ascend;
 use hx_margin::{margin_split, parts_around};
 use hx_rows::{RowRefusal, read_rows};
 use hx_work::reduce_task;
@@ -49,7 +50,8 @@ fn rows_in_file<J: Job>(alloc: Global, bytes: &[u8], number: u32) -> Result<Vec<
 ///
 /// # Errors
 ///
-/// `Damaged`, which under the premises never comes, where the file has no rows that the partition contains, and `Memory`.
+/// `Damaged`, which under the premises never comes, where the file has no rows, or rows that the partition doesn't contain
+/// or that don't ascend. `Memory`.
 pub fn margin_split_file<J: Job>(
     alloc: Global,
     bytes: &[u8],
@@ -68,6 +70,9 @@ pub fn margin_split_file<J: Job>(
 {
     let rows = rows_in_file::<J>(alloc, bytes, number)?;
     if !contains_all(part, &rows) {
+        return Err(damaged(JobFile::Part(number), 0));
+    }
+    if !ascend(&rows) {
         return Err(damaged(JobFile::Part(number), 0));
     }
     let file = margin_split(alloc, &rows, number, &cut.tree, settings.margin_order)?;
