@@ -125,8 +125,8 @@ fn rows_of_columns(alloc: Global, columns: &Columns) -> Result<Option<Vec<Row>>,
     )
 }
 
-// Whether no row comes before the one in front of it.
-fn ascend(rows: &[Row]) -> bool
+/// Whether no row comes before the one in front of it.
+pub fn ascend(rows: &[Row]) -> bool
     ensures { IsTrue result ↔ IsSorted row_cmp rows.now }
 {
     for i in 1..rows.len() {

@@ -6,7 +6,7 @@ use Rattle.hx_inputs.proofs.input.read_all.Given as goal
 abbrev pub invariant-loop-at : goal.invariant-loop-at
 invariant-loop-at g l = record {
   same : SameSource g.Src.Source.source l.fn.source l.source;
-  room : vec_len l.piece ≡ 65536;
+  room : vec_len l.piece ≡ 16384;
   within : l.at ≤ l.len;
   whole : IfSome (g.Src.Source.source.told l.fn.source) (λ bytes. l.len ≡ length bytes);
   front : IfSome (g.Src.Source.source.told l.fn.source) (λ bytes. l.all.items ≡ take l.at bytes);
