@@ -90,25 +90,25 @@ never_if : (b : Bool) (x y : Option JobFile) → (x ≡ Some file.Journal → �
 never_if true x y first other = first
 never_if false x y first other = other
 
-never_none : (None {A = JobFile}) ≡ Some file.Journal → ⊥
-never_none e = cc e
+never_none : (left : JobFile) → None ≡ Some left → ⊥
+never_none left e = cc e
 
 never_list : (number : ℕ) → list_of number ≡ Some file.Journal → ⊥
 never_list number =
     never_if (number == 0) _ _ (λ (e : Some file.List ≡ Some file.Journal). cc e)
     (never_if (number == 1) _ _ (λ (e : Some file.MarginList ≡ Some file.Journal). cc e)
-    (never_if (number == 2) _ _ (λ (e : Some file.MarginProperties ≡ Some file.Journal). cc e) never_none))
+    (never_if (number == 2) _ _ (λ (e : Some file.MarginProperties ≡ Some file.Journal). cc e) (never_none file.Journal)))
 
 not_journal : (task : Task) → file_of task ≡ Some file.Journal → ⊥
 not_journal task =
     never_if (task.kind == 1) _ _ (λ (e : Some (file.Map task.number) ≡ Some file.Journal). cc e)
-    (never_if (task.kind == 2) _ _ (never_if (task.number == 0) _ _ (λ (e : Some file.Plan ≡ Some file.Journal). cc e) never_none)
+    (never_if (task.kind == 2) _ _ (never_if (task.number == 0) _ _ (λ (e : Some file.Plan ≡ Some file.Journal). cc e) (never_none file.Journal))
     (never_if (task.kind == 3) _ _ (λ (e : Some (file.Split task.number) ≡ Some file.Journal). cc e)
     (never_if (task.kind == 4) _ _ (λ (e : Some (file.Part task.number) ≡ Some file.Journal). cc e)
     (never_if (task.kind == 5) _ _ (λ (e : Some (file.MarginSplit task.number) ≡ Some file.Journal). cc e)
     (never_if (task.kind == 6) _ _ (λ (e : Some (file.Margin task.number) ≡ Some file.Journal). cc e)
     (never_if (task.kind == 7) _ _ (never_list task.number)
-    (never_if (task.kind == 8) _ _ (never_if (task.number == 0) _ _ (λ (e : Some file.Properties ≡ Some file.Journal). cc e) never_none) never_none)))))))
+    (never_if (task.kind == 8) _ _ (never_if (task.number == 0) _ _ (λ (e : Some file.Properties ≡ Some file.Journal). cc e) (never_none file.Journal)) (never_none file.Journal))))))))
 
 -- the first letter of a work file's name tells it from the journal
 first_letter : (left : JobFile) (pixel : Pixel) → folder_of left ≡ work_folder → left ≢ file.Journal → get_or (folder_of left ++ part_of left pixel) 6 0 ≡ 106 → ⊥

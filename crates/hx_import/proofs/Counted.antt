@@ -82,14 +82,16 @@ both_counted job from mid to a b both low high first next sum = record {
 }
 
 -- the rows of as many inputs as there are
-pub all_first : (j : JobMembers) (rows : List Row) → AreRowsBetween (job_of j) 0 (length j.origins) rows → AreAllRows (job_of j) rows
-all_first j rows between =
+pub all_first : (j : JobMembers) (rows : List Row) → AreFirstRows (job_of j) (length j.origins) rows → AreAllRows (job_of j) rows
+all_first j rows are =
     let job = job_of j in
-    let are : AreFirstRows job (length j.origins) rows = are_first job (length j.origins) rows between in
     let count = inputs_are j in
     let names : take (length j.origins) (names_of job) ≡ names_of job = take_all (length j.origins) (names_of job) (omega (arith, count, length-map job.inputs (λ (i : InputData). i.name))) in
     let contents : take (length j.origins) (contents_of job) ≡ contents_of job = take_all (length j.origins) (contents_of job) (omega (arith, count, length-map job.inputs (λ (i : InputData). i.bytes))) in
     subst (λ (cs : List (List ℕ)). AreRows (names_of job) cs rows) contents (subst (λ (ns : List (List ℕ)). AreRows ns (take (length j.origins) (contents_of job)) rows) names are)
+
+all_between : (j : JobMembers) (rows : List Row) → AreRowsBetween (job_of j) 0 (length j.origins) rows → AreAllRows (job_of j) rows
+all_between j rows are = all_first j rows (are_first (job_of j) (length j.origins) rows are)
 
 many : (found : ℕ) (n : ℕ) → n ≡ found → most_partitions < found → Some (refusal.TooMany 3 found most_partitions) ≡ above 3 most_partitions n
 many found n same more = by (nat_lt most_partitions n) refl
@@ -108,7 +110,7 @@ module _ (j : JobMembers) (hist : Histogram) (counts : j.premises → CountsFirs
   planned (Ok made) is = λ p.
       let first = counts p in
       let plan = subst (λ (t : Settings). Plans t hist (Ok made)) same is first.rows first.counts in
-      record { all = first.rows; plan = plan.plan; cut = record { read = all_first j first.rows first.are; planned = plan.value }; holds = plan.reads }
+      record { all = first.rows; plan = plan.plan; cut = record { read = all_between j first.rows first.are; planned = plan.value }; holds = plan.reads }
   planned (Err r) is = tt
 
   pub plan_refused : (r : WorkRefusal) → IsPlanned (totals_of hist) s.lowest s.highest s.threshold (Err r) → Plans s hist (Err r) → IsRefused j (task 2 0) (refusal_of 0 r)
@@ -121,11 +123,11 @@ module _ (j : JobMembers) (hist : Histogram) (counts : j.premises → CountsFirs
       not_cut p =
           let first = counts p in
           let why = subst (λ (t : Settings). Plans t hist (Err (work.Overfull pixel found))) same is first.rows first.counts in
-          record { rows = first.rows; are = all_first j first.rows first.are; refused = inl (pixel, why.0, ap (λ (n : ℕ). Some (refusal.Overfull pixel n)) why.1) }
+          record { rows = first.rows; are = all_between j first.rows first.are; refused = inl (pixel, why.0, ap (λ (n : ℕ). Some (refusal.Overfull pixel n)) why.1) }
   plan_refused (work.TooMany found) h is = (refl, refl, not_cut)
     where
       not_cut : j.premises → IsNotCut j (refusal.TooMany 3 found most_partitions)
       not_cut p =
           let first = counts p in
           let (fits, has, more) = subst (λ (t : Settings). Plans t hist (Err (work.TooMany found))) same is first.rows first.counts in
-          record { rows = first.rows; are = all_first j first.rows first.are; refused = inr (fits, has.pixels, has.partitions, many found (length has.pixels) has.number more) }
+          record { rows = first.rows; are = all_between j first.rows first.are; refused = inr (fits, has.pixels, has.partitions, many found (length has.pixels) has.number more) }

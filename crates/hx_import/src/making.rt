@@ -38,6 +38,7 @@ fn counts_of<J: Job, Src: Source, S: Store>(
     ensures counts { IfOk result (λ hist. J.of.premises → CountsBetween (job_of J.of) number (number + 1) hist) }
     ensures cause { IfErr result (IsFailed J.of Src.source (task 2 0) None book.new.faults) }
     ensures still { IsStill book.old book.new }
+    ensures work { IsAtWork J.of book.new (task 2 0) }
 {
     let map = book.read_file(JobFile::Map(number))?;
     counts_in::<J>(alloc, &map, number, settings.highest)
@@ -62,6 +63,7 @@ fn counts_between<J: Job, Src: Source, S: Store>(
     ensures counts { IfOk result (λ sum. J.of.premises → CountsBetween (job_of J.of) from to sum) }
     ensures cause { IfErr result (IsFailed J.of Src.source (task 2 0) None book.new.faults) }
     ensures still { IsStill book.old book.new }
+    ensures work { IsAtWork J.of book.new (task 2 0) }
 {
     let count = to - from;
     if count == 0 {

@@ -1,12 +1,11 @@
 use Rattle.std.proofs.Common.{Err, IfOk, rules, ◌≡◌, ◌≤◌, ◌+◌, ◌-◌, ◌*◌, ◌/◌, arith, subst, ℕ}
 use Rattle.hx_base.specs.Limits.{most_rows}
 use Rattle.hx_book.specs.Books.{job_of}
-use Rattle.hx_book.specs.Tasks.{task}
 use Rattle.hx_book.proofs.Keeping.{inputs_are}
 use Rattle.hx_hist.specs.Histograms.{total_of}
 use Rattle.hx_import.specs.Given.{CountsBetween}
 use Rattle.hx_import.proofs.Counted.{empty_counted, empty_order, empty_total}
-use Rattle.hx_import.proofs.Working.{still, still_same, work_still}
+use Rattle.hx_import.proofs.Working.{still, still_same}
 use Rattle.hx_import.proofs.making.+counts_between.Goals as goal
 
 pub returns-then-count-eq0-clause-order : goal.returns-then-count-eq0-clause-order
@@ -39,9 +38,6 @@ pub returns-in_err-sum-clause-cause : goal.returns-in_err-sum-clause-cause
 returns-in_err-sum-clause-cause g t c =
     let is : c.from_residual.result ≡ Err c.in_err-sum.field-0.0 = search rules in
     rw is c.in_err-sum.ensures.cause
-
-pub counts_between-2-requires-clause-work : goal.counts_between-2-requires-clause-work
-counts_between-2-requires-clause-work g t c = work_still g.J.Job.of c.args.book.now c.counts_between.new.book (task 2 0) c.requires.work c.counts_between.ensures.still
 
 pub returns-in_err-more-clause-cause : goal.returns-in_err-more-clause-cause
 returns-in_err-more-clause-cause g t c =

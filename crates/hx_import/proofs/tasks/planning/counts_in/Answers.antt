@@ -11,5 +11,5 @@ pub returns-in-Err-Damaged-clause-cause : goal.returns-in-Err-Damaged-clause-cau
 returns-in-Err-Damaged-clause-cause g c = λ t. rw c.damaged-in-Err-Damaged.ensures (λ p.
     map_undamaged (job_of g.J.Job.of) c.args.bytes.now c.args.number c.in-Err-Damaged.place c.in-Err-Damaged.field-0 c.in-Err-Damaged.field-0-is (c.requires.file p) c.in-Err-Damaged.ensures.value)
 
-pub returns-in-Ok-clause-counts : goal.returns-in-Ok-clause-counts
-returns-in-Ok-clause-counts g c = λ p. one_counted (job_of g.J.Job.of) c.args.number c.args.bytes.now c.in-Ok.hist (c.requires.file p) c.in-Ok.ensures.value
+pub returns-else-order-highest-clause-counts : goal.returns-else-order-highest-clause-counts
+returns-else-order-highest-clause-counts g c = λ p. one_counted (job_of g.J.Job.of) c.args.number c.args.bytes.now c.in-Ok.hist (c.requires.file p) c.in-Ok.ensures.value
