@@ -37,17 +37,15 @@ impl<R: Files<File = File>> System<R> {
     /// How many bytes a file has, None where it is absent. A folder or a pipe is no file.
     pub(crate) fn len(&mut self, path: &str) -> io::Result<Option<u64>> {
         if let Some(len) = self.known.len(path) {
-            return Ok(Some(len));
+            return Ok(len);
         }
         let len = len_of(&self.rt, path)?;
-        if let Some(len) = len {
-            self.known.set_len(path, len);
-        }
+        self.known.set_len(path, len);
         Ok(len)
     }
 
-    // Reads the bytes of a file of a length. It stays open.
-    fn read_there(&mut self, path: &str, len: u64, at: u64, buf: &mut [u8]) -> io::Result<usize>
+    // Reads the bytes of a file that is there. It stays open.
+    fn read_there(&mut self, path: &str, at: u64, buf: &mut [u8]) -> io::Result<usize>
         ensures { IfOk result (λ count. count ≤ length buf.old) }
     {
         if let Some(file) = self.known.file(path) {
@@ -55,7 +53,7 @@ impl<R: Files<File = File>> System<R> {
         }
         let file = File::open(&self.rt, path)?;
         let read = fill(&file, at, buf);
-        self.known.keep(path, file, len);
+        self.known.keep_file(path, file);
         read
     }
 
@@ -64,7 +62,7 @@ impl<R: Files<File = File>> System<R> {
         ensures { IfOk result (λ count. count ≤ length buf.old) }
     {
         match self.len(path)? {
-            Some(len) if at < len => self.read_there(path, len, at, buf),
+            Some(len) if at < len => self.read_there(path, at, buf),
             _ => Ok(0),
         }
     }
@@ -90,8 +88,11 @@ impl<R: Files<File = File>> System<R> {
         Ok(())
     }
 
-    // Opens a file to add bytes at its end. One that is absent is made, with its folders.
+    // Opens a file to add bytes at its end, unless it is open. One that is absent is made, with its folders.
     fn open_end(&mut self, path: &str) -> io::Result<File> {
+        if let Some(file) = self.known.take_end(path) {
+            return Ok(file);
+        }
         match open_end(&self.rt, path) {
             Err(error) if is_absence(&error) => {
                 self.make_folders(path)?;
@@ -101,24 +102,33 @@ impl<R: Files<File = File>> System<R> {
         }
     }
 
-    /// Adds bytes at the end of a file. One that is absent is made, with its folders.
+    /// Adds bytes at the end of a file, which stays open. One that is absent is made, with its folders.
     pub(crate) fn append(&mut self, path: &str, bytes: &[u8]) -> io::Result<()> {
         let len = self.len(path)?;
-        self.known.forget(path);
         if len.is_none() {
             self.lasting.unsettle(folder_of(path));
         }
         let mut file = self.open_end(path)?;
+        self.known.forget(path);
         write_all(&mut file, bytes)?;
         let len = len.unwrap_or(0).saturating_add(bytes.len() as u64);
-        self.known.set_len(path, len);
+        self.known.set_len(path, Some(len));
+        self.known.keep_end(path, file);
         Ok(())
+    }
+
+    // Syncs what a file holds that is there.
+    fn sync_there(&mut self, path: &str) -> io::Result<()> {
+        match self.known.end(path) {
+            Some(file) => file.sync_data(),
+            None => sync_bytes(&self.rt, path),
+        }
     }
 
     /// Syncs a file and the folders of its path. Where it is absent, it stays so after a crash.
     pub(crate) fn sync(&mut self, path: &str) -> io::Result<()> {
         if self.len(path)?.is_some() {
-            sync_bytes(&self.rt, path)?;
+            self.sync_there(path)?;
         }
         self.sync_names(path)
     }
@@ -156,13 +166,16 @@ impl<R: Files<File = File>> System<R> {
     /// Gives a file another name, whose folders are made, and syncs the folder of that name. A rename is one step of the
     /// system: once the new name lasts, the old one is gone. Where it is absent, or both names are one, nothing changes.
     pub(crate) fn rename(&mut self, from: &str, to: &str) -> io::Result<()> {
-        if self.len(from)?.is_none() || from == to {
+        let len = self.len(from)?;
+        if len.is_none() || from == to {
             return Ok(());
         }
         self.known.forget(from);
         self.known.forget(to);
         self.lasting.unsettle(folder_of(to));
         self.move_file(from, to)?;
+        self.known.set_len(from, None);
+        self.known.set_len(to, len);
         self.sync_names(to)
     }
 
@@ -174,6 +187,7 @@ impl<R: Files<File = File>> System<R> {
         self.known.forget(path);
         self.lasting.unsettle(folder_of(path));
         fs::remove_file(&self.rt, path)?;
+        self.known.set_len(path, None);
         self.sync_names(path)
     }
 }
