@@ -1,21 +1,21 @@
 -- An input's bytes as rows of the job, and the file of its map.
-use Rattle.std.proofs.Common.{◌≡◌, ◌<◌, ◌+◌, ◌++◌, ◌∙◌, ℕ, List, [], Option, Some, None, Ok, Err, IfOk, IfSome, IsSome, get_or, length, slice_get, refl, sym, ap, subst, arith, inl}
+use Rattle.std.proofs.Common.{◌≡◌, ◌<◌, ◌+◌, ◌++◌, ◌∷◌, ◌∙◌, ℕ, List, [], Option, Some, None, Ok, Err, IfOk, IfSome, IsSome, get_or, length, slice_get, refl, sym, ap, subst, arith, inl}
 use Rattle.std.proofs.Math.ListN.{get_or-map}
-use Rattle.std.proofs.lemmas.List.{get_or_default, length-map}
+use Rattle.std.proofs.lemmas.List.{append-nil, get_or_default, length-map}
 use Rattle.std.proofs.lemmas.Option.{get_or_from_slice_get, slice_get-map, slice_get_within}
 use Rattle.std.specs.Option.{option_map}
 use Rattle.hx_base.specs.declared.refusal.JobFile.TheVariants as file
 use Rattle.hx_base.specs.declared.row.Row.{Row}
 use Rattle.hx_rows.specs.Reading.{rows_of}
-use Rattle.hx_inputs.proofs.InTurn.{rows_next}
 use Rattle.hx_work.specs.Work.{IsMapped, Work}
 use Rattle.hx_work.specs.declared.refusal.WorkRefusal.{WorkRefusal}
 use Rattle.hx_work.specs.declared.refusal.WorkRefusal.TheVariants as work
 use Rattle.hx_book.specs.Books.{IsBadInput, JobMembers, input_of, job_of, told_bytes}
 use Rattle.hx_book.specs.Tasks.{InputData, JobData, contents_of, names_of, task}
 use Rattle.hx_book.specs.Values.{AreRowsOf, IsFileOf}
-use Rattle.hx_import.specs.Given.{AreFirstRows, AreOfInput}
+use Rattle.hx_import.specs.Given.{AreFirstRows, AreOfInput, AreRowsBetween}
 use Rattle.hx_import.specs.Made.{IsRefused, refusal_of}
+use Rattle.hx_import.proofs.Ranged.{are_first, both_rows, by_ranges, from_first, range_one}
 
 module _ (j : JobMembers) (number : ℕ) (name bytes : List ℕ) (is : AreOfInput j number name bytes) where
   told_is : j.premises → told_bytes is.origin.told ≡ bytes
@@ -66,14 +66,22 @@ one_input job number a b first second =
     let both : Ok a ≡ Ok b = sym read ∙ second.read in
     cc both
 
--- the rows of one input more
-pub first_next : (job : JobData) (n : ℕ) (rows own : List Row) → AreFirstRows job n rows → AreRowsOf job n own → AreFirstRows job (n + 1) (rows ++ own)
-first_next job n rows own first is =
+-- the rows of an input
+pub own_rows : (job : JobData) (n : ℕ) (own : List Row) → AreRowsOf job n own → AreRowsBetween job n (n + 1) own
+own_rows job n own is =
     let input = is.input in
     let within : n < length job.inputs = slice_get_within job.inputs n input is.there in
     let at : get_or job.inputs n input ≡ input = get_or_from_slice_get job.inputs n input input is.there in
     let named : n < length (names_of job) = omega (arith, within, length-map job.inputs (λ (i : InputData). i.name)) in
     let told : n < length (contents_of job) = omega (arith, within, length-map job.inputs (λ (i : InputData). i.bytes)) in
-    let name : input.name ≡ get_or (names_of job) n input.name = sym (get_or-map (λ (i : InputData). i.name) job.inputs n input ∙ ap (λ (i : InputData). i.name) at) in
+    let name : get_or (names_of job) n input.name ≡ input.name = get_or-map (λ (i : InputData). i.name) job.inputs n input ∙ ap (λ (i : InputData). i.name) at in
     let bytes : get_or (contents_of job) n [] ≡ input.bytes = get_or_default (contents_of job) n [] input.bytes told ∙ get_or-map (λ (i : InputData). i.bytes) job.inputs n input ∙ ap (λ (i : InputData). i.bytes) at in
-    rows_next (names_of job) (contents_of job) n input.name rows own name named told first (ap (rows_of input.name) bytes ∙ is.read)
+    by_ranges job n (n + 1) (input.name ∷ []) (input.bytes ∷ []) own
+    (range_one (names_of job) n input.name named ∙ ap (λ (x : List ℕ). x ∷ []) name)
+    (range_one (contents_of job) n [] told ∙ ap (λ (x : List ℕ). x ∷ []) bytes)
+    (own, [], is.read, refl, sym (append-nil own))
+
+-- the rows of one input more
+pub first_next : (job : JobData) (n : ℕ) (rows own : List Row) → AreFirstRows job n rows → AreRowsOf job n own → AreFirstRows job (n + 1) (rows ++ own)
+first_next job n rows own first is =
+    are_first job (n + 1) (rows ++ own) (both_rows job 0 n (n + 1) rows own (omega arith) (omega arith) (from_first job n rows first) (own_rows job n own is))

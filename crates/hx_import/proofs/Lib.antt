@@ -1,4 +1,5 @@
 pub mod Cleaned
+pub mod Ranged
 pub mod Inputs
 pub mod Counted
 pub mod Cuts

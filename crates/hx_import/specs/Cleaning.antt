@@ -1,5 +1,5 @@
 -- What cleaning leaves of a folder: the work files of an import go, and its journal behind them.
-use Rattle.std.specs.Prelude.{◌≡◌, ◌≢◌, ◌++◌, ⊤, ℕ, List, All, Some, None, codes}
+use Rattle.std.specs.Prelude.{◌≡◌, ◌≢◌, ◌⊎◌, ◌++◌, ⊤, ℕ, List, All, Some, None, codes}
 use Rattle.hx_base.specs.Paths.{folder_of, path_of}
 use Rattle.hx_base.specs.Tasks.{file_of}
 use Rattle.hx_base.specs.declared.pixel.Pixel.{Pixel}
@@ -38,6 +38,20 @@ HasNoWorkOf name folder entry = (left : JobFile) (pixel : Pixel) → LeavesWork 
 pub record IsCleaned (name : List ℕ) (before now : Folder) : Type 0 where
   pub journal : now (journal_file name) ≡ None
   pub work : (header : List ℕ) (records : List Record) → IsHeader header → Stands header records (before (journal_file name)) → All (HasNoWorkOf name now) records
+
+-- the journal stays as it was
+abbrev pub KeepsJournal : List ℕ → Step
+KeepsJournal name f g = g (journal_file name) ≡ f (journal_file name)
+
+-- the journal stays as it was, or the work file of each of some records is absent
+abbrev pub RemovesInOrder : List ℕ → List Record → Step
+RemovesInOrder name records f g = (g (journal_file name) ≡ f (journal_file name)) ⊎ All (HasNoWorkOf name g) records
+
+-- The journal goes last: its header and its records stand as they did, or the work file of each task that it had recorded is absent.
+abbrev pub CleansInOrder : List ℕ → Step
+CleansInOrder name f g =
+    (header : List ℕ) (records : List Record) → IsHeader header → Stands header records (f (journal_file name))
+    → Stands header records (g (journal_file name)) ⊎ All (HasNoWorkOf name g) records
 
 -- the pixel that stands where a file has none
 abbrev pub no_pixel : Pixel

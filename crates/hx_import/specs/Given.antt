@@ -1,6 +1,6 @@
 -- What the tasks of an import work on, in the words of the job: under its premises, and where these don't hold what can be known all the same.
 use Rattle.std.specs.Prelude.{◌≡◌, ◌<◌, ℕ, List, All, IfSome, IsSome, Some, length, slice_get, sum_by, take}
-use Rattle.std.specs.List.{flat_map}
+use Rattle.std.specs.List.{flat_map, slice_range}
 use Rattle.hx_align.specs.Plans.{pixels_of}
 use Rattle.hx_align.specs.declared.plan.PlanRow.{PlanRow}
 use Rattle.hx_base.specs.Contents.{partition_rows}
@@ -33,11 +33,19 @@ pub record AreOfInput (j : JobMembers) (number : ℕ) (name bytes : List ℕ) : 
 abbrev pub AreFirstRows : JobData → ℕ → List Row → Type 0
 AreFirstRows job n rows = AreRows (take n (names_of job)) (take n (contents_of job)) rows
 
--- a histogram counts the rows of the first inputs
-pub record CountsFirst (job : JobData) (n : ℕ) (hist : Histogram) : Type 0 where
+-- the rows of the inputs from one number up to another, one input after another
+abbrev pub AreRowsBetween : JobData → (from to : ℕ) → List Row → Type 0
+AreRowsBetween job from to rows = AreRows (slice_range (names_of job) from to) (slice_range (contents_of job) from to) rows
+
+-- a histogram counts the rows of the inputs from one number up to another
+pub record CountsBetween (job : JobData) (from to : ℕ) (hist : Histogram) : Type 0 where
   pub rows : List Row
-  pub are : AreFirstRows job n rows
+  pub are : AreRowsBetween job from to rows
   pub counts : AreCountsOf job.settings.highest rows hist
+
+-- and those of the first inputs
+abbrev pub CountsFirst : JobData → ℕ → Histogram → Type 0
+CountsFirst job n hist = CountsBetween job 0 n hist
 
 -- the job's partitions, with a list of their pixels: their orders are below the margin order
 pub record IsCutFor (j : JobMembers) (plan : List PlanRow) (parts : List Pixel) : Type 0 where

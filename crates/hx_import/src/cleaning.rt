@@ -9,7 +9,7 @@ ghost use Rattle.hx_outside.specs.Disk.{Passes};
 ghost use Rattle.hx_outside.specs.Faults.{HasFailed, HasStoreCause};
 ghost use Rattle.hx_outside.specs.Folders.{Folder, Same, SameBut};
 ghost use Rattle.hx_outside.specs.declared.store.StoreError.TheVariants.{Failed};
-ghost use Rattle.hx_import.specs.Cleaning.{HasNoWorkOf, IsCleaned, IsNotCleaned, KeepsOutside, LeavesWork, MayRefuseCleaning, properties_file, work_folder};
+ghost use Rattle.hx_import.specs.Cleaning.{CleansInOrder, HasNoWorkOf, IsCleaned, IsNotCleaned, KeepsJournal, KeepsOutside, LeavesWork, MayRefuseCleaning, RemovesInOrder, properties_file, work_folder};
 
 use hx_base::{JobFile, Name, Pixel, Refusal, Task, job_path};
 use hx_journal::{JournalRefusal, Record, a_file_is_one_journal, open};
@@ -81,6 +81,7 @@ fn remove_work_of<S: Store>(
     entry: &Record,
 ) -> Result<(), StoreError>
     ensures passes { S.disk.tells store.old → Passes S.disk store.old store.new (KeepsOutside name.now) }
+    ensures journal { S.disk.tells store.old → Passes S.disk store.old store.new (KeepsJournal name.now) }
     ensures gone { S.disk.tells store.old → OnOk result ((f : Folder) → S.disk.may_leave store.new f → HasNoWorkOf name.now f entry.now) }
     ensures still { S.disk.tells store.old → OnOk result ((n : List ℕ) → ((f : Folder) → S.disk.may_leave store.old f → f n ≡ None) →
         (f : Folder) → S.disk.may_leave store.new f → f n ≡ None) }
@@ -101,6 +102,7 @@ fn remove_work<S: Store>(
     records: &[Record],
 ) -> Result<(), StoreError>
     ensures passes { S.disk.tells store.old → Passes S.disk store.old store.new (KeepsOutside name.now) }
+    ensures journal { S.disk.tells store.old → Passes S.disk store.old store.new (KeepsJournal name.now) }
     ensures gone { S.disk.tells store.old → OnOk result ((f : Folder) → S.disk.may_leave store.new f → All (HasNoWorkOf name.now f) records.now) }
     ensures cause { HasStoreCause S.disk.faults store.old store.new result }
 {
@@ -129,24 +131,27 @@ fn remove_all<S: Store>(
     records: &[Record],
 ) -> Result<(), StoreError>
     ensures passes { S.disk.tells store.old → Passes S.disk store.old store.new (KeepsOutside name.now) }
+    ensures in_order { S.disk.tells store.old → Passes S.disk store.old store.new (RemovesInOrder name.now records.now) }
     ensures gone { S.disk.tells store.old → OnOk result ((f : Folder) → S.disk.may_leave store.new f → All (HasNoWorkOf name.now f) records.now) }
     ensures journal { S.disk.tells store.old → OnOk result ((f : Folder) → S.disk.may_leave store.new f → f (journal_file name.now) ≡ None) }
     ensures cause { HasStoreCause S.disk.faults store.old store.new result }
 {
     remove_work(alloc, store, name, records)?;
-    let path = job_path(alloc, name, JobFile::Journal, NO_PIXEL)?;
-    remove_for_good(store, path.as_str())
+    let journal = job_path(alloc, name, JobFile::Journal, NO_PIXEL)?;
+    remove_for_good(store, journal.as_str())
 }
 
 /// Removes the work files of the tasks that a catalogue's journal has recorded, each so that no crash brings it back,
 /// and then the journal. Where there is no journal nothing changes. At each moment a crash leaves all files outside
-/// the folder `NAME.work` as they were.
+/// the folder `NAME.work` as they were, and the journal with its header and records for as long as one of these files
+/// may be there, so that the next cleaning goes on.
 ///
 /// Over a store that tells, `NoCatalogue` of side 1 comes exactly where the catalogue's properties are absent, and
 /// `Damaged` of side 1 where the journal is damaged, at its first damaged place. `StoreFault` comes only where the
 /// store's count of faults rose; it and `Memory` may come in place of each other answer.
 pub fn clean<S: Store>(alloc: Global, store: &mut S, name: &Name) -> Result<(), Refusal>
     ensures passes { S.disk.tells store.old → Passes S.disk store.old store.new (KeepsOutside name.now) }
+    ensures in_order { S.disk.tells store.old → Passes S.disk store.old store.new (CleansInOrder name.now) }
     ensures cleaned { S.disk.tells store.old → OnOk result ((f : Folder) → S.disk.may_leave store.new f → IsCleaned name.now (S.disk.reads store.old) f) }
     ensures idle { S.disk.tells store.old → S.disk.reads store.old (journal_file name.now) ≡ None → S.disk.reads store.new ≡ S.disk.reads store.old }
     ensures there { S.disk.tells store.old → OnOk result (S.disk.reads store.old (properties_file name.now) ≢ None) }

@@ -11,7 +11,7 @@ mod tasks;
 pub use cleaning::clean;
 pub use serial::import_one;
 pub use tasks::{
-    Cut, add_map, add_margin_slice, add_slice, list_file, map_file, margin_file,
+    Cut, add_counts, add_margin_slice, add_slice, counts_in, list_file, map_file, margin_file,
     margin_properties_file, margin_split_file, numbers_around, part_of, plan_file, properties_file,
     read_cut, reduce_file, split_file,
 };

@@ -1,23 +1,83 @@
 //! What a task that a worker holds makes of the job's files.
-ghost use Rattle.std.specs.Prelude.{◌≡◌, ◌≤◌, ◌<◌, None, Some, IfErr, IfOk, IfSome, slice_get};
+ghost use Rattle.std.specs.Prelude.{◌≡◌, ◌≤◌, ◌<◌, ◌+◌, ◌-◌, ◌*◌, None, Some, IfErr, IfOk, IfSome, length, slice_get};
+ghost use Rattle.hx_base.specs.Limits.{most_rows};
 ghost use Rattle.hx_base.specs.declared.refusal.JobFile.TheVariants.{Map, Margin, MarginProperties, MarginSplit, Part, Plan as PlanFile, Properties};
 ghost use Rattle.hx_base.specs.declared.refusal.Refusal.TheVariants.{Memory};
 ghost use Rattle.hx_book.specs.Books.{job_of};
 ghost use Rattle.hx_book.specs.Tasks.{task};
 ghost use Rattle.hx_book.specs.Values.{IsFileOf, IsValue};
-ghost use Rattle.hx_import.specs.Given.{IsCutFor};
+ghost use Rattle.hx_hist.specs.Histograms.{total_of};
+ghost use Rattle.hx_import.specs.Given.{CountsBetween, IsCutFor};
 ghost use Rattle.hx_import.specs.Working.{IsAsked, IsAtWork, IsFailed, IsStill};
 
 use crate::summing::{count_of_kind, rows_of_kind};
 use crate::tasks::{
-    Cut, add_map, add_margin_slice, add_slice, list_file, margin_file, margin_properties_file,
-    margin_split_file, numbers_around, part_of, plan_file, properties_file, read_cut, reduce_file,
+    Cut, add_counts, add_margin_slice, add_slice, counts_in, list_file, margin_file,
+    margin_properties_file, margin_split_file, numbers_around, part_of, plan_file, properties_file,
+    read_cut, reduce_file,
 };
 use hx_base::{JobFile, Refusal, Settings, Task, partitions_of_rows};
 use hx_book::{Book, Job};
 use hx_hist::Hist;
 use hx_outside::{Source, Store};
 use std::alloc::Global;
+
+// The counts of an input, by its map file.
+fn counts_of<J: Job, Src: Source, S: Store>(
+    alloc: Global,
+    book: &mut Book<J, Src, S>,
+    number: u32,
+    settings: &Settings,
+) -> Result<Hist, Refusal>
+    requires asked { IsAsked J.of }
+    requires settings { settings.now ≡ J.of.settings }
+    requires work { IsAtWork J.of book.old (task 2 0) }
+    requires there { number < length (job_of J.of).inputs }
+    ensures order { IfOk result (λ hist. hist.order ≡ J.of.settings.highest) }
+    ensures total { IfOk result (λ hist. total_of hist.pairs ≤ most_rows) }
+    ensures counts { IfOk result (λ hist. J.of.premises → CountsBetween (job_of J.of) number (number + 1) hist) }
+    ensures cause { IfErr result (IsFailed J.of Src.source (task 2 0) None book.new.faults) }
+    ensures still { IsStill book.old book.new }
+    ensures work { IsAtWork J.of book.new (task 2 0) }
+{
+    let map = book.read_file(JobFile::Map(number))?;
+    counts_in::<J>(alloc, &map, number, settings.highest)
+}
+
+// The counts of the inputs from one number up to another: those of each half, together. So each map is read once, and
+// its pixels are in as many sums as the inputs can be halved. No more histograms are kept at a time than that.
+fn counts_between<J: Job, Src: Source, S: Store>(
+    alloc: Global,
+    book: &mut Book<J, Src, S>,
+    from: u32,
+    to: u32,
+    settings: &Settings,
+) -> Result<Hist, Refusal>
+    requires asked { IsAsked J.of }
+    requires settings { settings.now ≡ J.of.settings }
+    requires work { IsAtWork J.of book.old (task 2 0) }
+    requires range { from ≤ to }
+    requires there { to ≤ length (job_of J.of).inputs }
+    ensures order { IfOk result (λ sum. sum.order ≡ J.of.settings.highest) }
+    ensures total { IfOk result (λ sum. total_of sum.pairs ≤ (to - from) * most_rows) }
+    ensures counts { IfOk result (λ sum. J.of.premises → CountsBetween (job_of J.of) from to sum) }
+    ensures cause { IfErr result (IsFailed J.of Src.source (task 2 0) None book.new.faults) }
+    ensures still { IsStill book.old book.new }
+    ensures work { IsAtWork J.of book.new (task 2 0) }
+{
+    let count = to - from;
+    if count == 0 {
+        return Ok(Hist::new(alloc, settings.highest));
+    }
+    if count == 1 {
+        return counts_of(alloc, book, from, settings);
+    }
+    let mid = from + count / 2;
+    let mut sum = counts_between(alloc, book, from, mid, settings)?;
+    let more = counts_between(alloc, book, mid, to, settings)?;
+    add_counts::<J>(&mut sum, &more)?;
+    Ok(sum)
+}
 
 /// The file of the plan task: the counts of all map files are summed and cut into partitions.
 pub(crate) fn make_plan<J: Job, Src: Source, S: Store>(
@@ -32,12 +92,8 @@ pub(crate) fn make_plan<J: Job, Src: Source, S: Store>(
     ensures cause { IfErr result (IsFailed J.of Src.source (task 2 0) None book.new.faults) }
     ensures still { IsStill book.old book.new }
 {
-    let mut sum = Hist::new(alloc, settings.highest);
     let inputs = book.inputs();
-    for number in 0..inputs {
-        let map = book.read_file(JobFile::Map(number))?;
-        add_map::<J>(alloc, &mut sum, &map, number, settings.highest)?;
-    }
+    let sum = counts_between(alloc, book, 0, inputs, settings)?;
     plan_file::<J>(alloc, &sum, settings)
 }
 

@@ -21,7 +21,7 @@ pub use cutting::{Cut, part_of, read_cut};
 pub use gathering::{add_margin_slice, add_slice};
 pub use mapping::map_file;
 pub use margins::{margin_file, margin_split_file, numbers_around};
-pub use planning::{add_map, plan_file};
+pub use planning::{add_counts, counts_in, plan_file};
 pub use reducing::reduce_file;
 pub use splitting::split_file;
 pub use texts::{list_file, margin_properties_file, properties_file};

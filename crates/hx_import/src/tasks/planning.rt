@@ -1,12 +1,12 @@
 //! The plan task: the counts of all inputs are cut into partitions.
-ghost use Rattle.std.specs.Prelude.{◌≡◌, ◌+◌, ◌*◌, ◌<◌, ◌≤◌, IfErr, IfOk, Ok, OnOk, length};
-ghost use Rattle.hx_base.specs.Limits.{FitsLimits, most_inputs, most_rows};
+ghost use Rattle.std.specs.Prelude.{◌≡◌, ◌+◌, ◌^◌, ◌<◌, ◌≤◌, ℕ, IfErr, IfOk, Ok, OnOk, length};
+ghost use Rattle.hx_base.specs.Limits.{FitsLimits, most_rows};
 ghost use Rattle.hx_base.specs.declared.refusal.JobFile.TheVariants.{Map, Plan};
 ghost use Rattle.hx_book.specs.Books.{job_of};
 ghost use Rattle.hx_book.specs.Tasks.{task};
 ghost use Rattle.hx_book.specs.Values.{IsFileOf};
 ghost use Rattle.hx_hist.specs.Histograms.{total_of};
-ghost use Rattle.hx_import.specs.Given.{CountsFirst};
+ghost use Rattle.hx_import.specs.Given.{CountsBetween, CountsFirst};
 ghost use Rattle.hx_import.specs.Made.{IsRefused, IsUnread};
 ghost use Rattle.hx_spill.specs.Maps.{map_in};
 
@@ -14,12 +14,16 @@ use crate::tasks::{damaged, refusal_of};
 use hx_base::{JobFile, Refusal, Settings, SpillRefusal};
 use hx_book::Job;
 use hx_hist::Hist;
-use hx_spill::{counts_of_inputs, read_map};
+use hx_spill::read_map;
 use hx_work::plan_task;
-use std::alloc::Global;
+use std::alloc::{AllocError, Global};
 
 /// The counts of an input by its map file, which are of the job's highest order.
-pub(crate) fn counts_in<J: Job>(
+///
+/// # Errors
+///
+/// `Damaged`, which under the premises never comes, and `Memory`.
+pub fn counts_in<J: Job>(
     alloc: Global,
     bytes: &[u8],
     number: u32,
@@ -30,6 +34,7 @@ pub(crate) fn counts_in<J: Job>(
     ensures order { IfOk result (λ hist. hist.order ≡ J.of.settings.highest) }
     ensures total { IfOk result (λ hist. total_of hist.pairs ≤ most_rows) }
     ensures reads { IfOk result (λ hist. map_in bytes.now ≡ Ok hist) }
+    ensures counts { IfOk result (λ hist. J.of.premises → CountsBetween (job_of J.of) number (number + 1) hist) }
     ensures cause { IfErr result (IsUnread J.of) }
 {
     match read_map(alloc, bytes) {
@@ -44,32 +49,21 @@ pub(crate) fn counts_in<J: Job>(
     }
 }
 
-/// Adds the counts of the map file of an input to those of the inputs before it.
+/// Adds the counts of inputs to those of the inputs right before them.
 ///
 /// # Errors
 ///
-/// `Damaged`, which under the premises never comes, and `Memory`.
-pub fn add_map<J: Job>(
-    alloc: Global,
-    sum: &mut Hist,
-    bytes: &[u8],
-    number: u32,
-    highest: u8,
-) -> Result<(), Refusal>
-    requires highest { highest ≡ J.of.settings.highest }
+/// Want of memory.
+pub fn add_counts<J: Job>(sum: &mut Hist, more: &Hist) -> Result<(), AllocError>
     requires order { sum.old.order ≡ J.of.settings.highest }
-    requires few { number < most_inputs }
-    requires total { total_of sum.old.pairs ≤ number * most_rows }
-    requires before { J.of.premises → CountsFirst (job_of J.of) number sum.old }
-    requires file { J.of.premises → IsFileOf (job_of J.of) bytes.now (Map number) }
+    requires same { more.now.order ≡ J.of.settings.highest }
+    requires total { total_of sum.old.pairs + total_of more.now.pairs < 2 ^ 64 }
     ensures order { sum.new.order ≡ J.of.settings.highest }
-    ensures total { OnOk result (total_of sum.new.pairs ≤ (number + 1) * most_rows) }
-    ensures counts { OnOk result (J.of.premises → CountsFirst (job_of J.of) (number + 1) sum.new) }
-    ensures cause { IfErr result (IsUnread J.of) }
+    ensures total { OnOk result (total_of sum.new.pairs ≡ total_of sum.old.pairs + total_of more.now.pairs) }
+    ensures counts { OnOk result ((from mid to : ℕ) → from ≤ mid → mid ≤ to → CountsBetween (job_of J.of) from mid sum.old →
+        CountsBetween (job_of J.of) mid to more.now → CountsBetween (job_of J.of) from to sum.new) }
 {
-    counts_of_inputs();
-    let map = counts_in::<J>(alloc, bytes, number, highest)?;
-    sum.merge(&map)?;
+    sum.merge(more)?;
     let _pairs = sum.pairs();
     Ok(())
 }
