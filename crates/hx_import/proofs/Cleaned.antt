@@ -8,7 +8,7 @@ use Rattle.hx_base.specs.Paths.{folder_of, part_of, path_of}
 use Rattle.hx_base.specs.declared.pixel.Pixel.{Pixel}
 use Rattle.hx_base.specs.declared.refusal.JobFile.{JobFile}
 use Rattle.hx_base.specs.declared.refusal.JobFile.TheVariants as file
-use Rattle.hx_base.specs.Tasks.{alone, file_of, list_of}
+use Rattle.hx_base.specs.Tasks.{file_of, list_of}
 use Rattle.hx_base.specs.declared.task.Task.{Task}
 use Rattle.hx_journal.specs.Headers.{IsHeader}
 use Rattle.hx_journal.specs.Journal.{IsReady, Opened, Stands, Trims, journal_file}

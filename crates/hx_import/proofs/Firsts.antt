@@ -1,12 +1,11 @@
 -- What an import answers first: what its folder alone refuses, and what is refused of its inputs and of all rows.
 use Rattle.std.proofs.Common.{◌≡◌, ◌≢◌, ◌<◌, ◌≤◌, ◌+◌, ◌∙◌, ◌∷◌, ◌++◌, ◌⊎◌, ℕ, zero, suc, List, [], Some, None, Option, Ok, Err, IfSome, IsSome, append_assoc, length, map, nat_lt, slice_get, take, true, refl, sym, ap, subst, arith, inl, inr}
-use Rattle.std.specs.Option.{option_map, option_or}
+use Rattle.std.specs.Option.{option_map}
 use Rattle.std.proofs.lemmas.Bool.{cases_lt, cases_order, le-ltb, lt-ltb}
 use Rattle.std.proofs.lemmas.List.{length-map}
 use Rattle.std.proofs.lemmas.Option.{slice_get-map}
 use Rattle.hx_align.specs.Refusals.{IsCutRefusal}
 use Rattle.hx_align.specs.declared.plan.PlanRow.{PlanRow}
-use Rattle.hx_base.specs.FirstRefusals.{OrElse}
 use Rattle.hx_base.specs.Limits.{above, most_bytes, most_partitions}
 use Rattle.hx_base.specs.Pixels.{count_in}
 use Rattle.hx_base.specs.declared.refusal.Refusal.{Refusal}

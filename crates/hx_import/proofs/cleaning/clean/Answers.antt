@@ -2,7 +2,7 @@ use Rattle.std.proofs.Common.{◌∙◌, subst, sym}
 use Rattle.std.specs.List.{All}
 use Rattle.hx_journal.specs.Journal.{Stands, journal_file}
 use Rattle.hx_import.specs.Cleaning.{HasNoWorkOf}
-use Rattle.hx_import.proofs.Cleaned.{cleaned_in_order, keeps_next, opened_in_order, opened_passes, same_in_order}
+use Rattle.hx_import.proofs.Cleaned.{cleaned_in_order, keeps_next, opened_in_order, opened_passes}
 use Rattle.hx_import.proofs.cleaning.clean.Goals as goal
 
 pub returns-in-Err-clause-refused : goal.returns-in-Err-clause-refused

@@ -1,4 +1,4 @@
-use Rattle.std.proofs.Common.{None, arith, length, subst, ℕ, ◌≡◌, ◌∙◌}
+use Rattle.std.proofs.Common.{None, subst, ℕ, ◌∙◌}
 use Rattle.hx_book.specs.Books.{job_of}
 use Rattle.hx_book.specs.Tasks.{task}
 use Rattle.hx_book.proofs.Keeping.{inputs_are}
