@@ -17,16 +17,16 @@ pub(super) const OPENED: u64 = 5;
 pub(super) const READ: u64 = 2;
 
 /// The most calls of a task.
-pub(super) const MOST: u64 = 20;
+pub(super) const MOST: u64 = 16;
 
 // The calls of each task, in the tasks' order. Each publishes its file by 4 calls and notes its record by 4. A plan reads
 // each map file, a split its map file, a margin split its partition's file, and the first split reads the plan too. A
-// partition and a margin read three parts of each split file that may have rows of theirs: its front, its head, and the
-// rows if there are any.
-const OF_ONE_PART: &[u64] = &[8, 10, 12, 14, 10, 8, 8, 8, 8, 8];
+// partition and a margin read the front of each split file that may have rows of theirs, which has its head, and the rows
+// if there are any.
+const OF_ONE_PART: &[u64] = &[8, 10, 12, 12, 10, 8, 8, 8, 8, 8];
 
 const OF_THREE_PARTS: &[u64] = &[
-    8, 8, 12, 12, 10, 18, 20, 18, 10, 10, 10, 20, 18, 20, 8, 8, 8, 8,
+    8, 8, 12, 12, 10, 14, 16, 14, 10, 10, 10, 16, 14, 16, 8, 8, 8, 8,
 ];
 
 fn calls_of_tasks(sky: Sky) -> &'static [u64] {

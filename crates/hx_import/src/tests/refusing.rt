@@ -74,6 +74,14 @@ fn store_with(alloc: Global, path: &str, bytes: &[u8]) -> Result<MemStore, Fail>
     Ok(store)
 }
 
+// Whether a file is absent, unless it is the one of this path.
+fn is_absent(store: &MemStore, path: &str, other: &str) -> bool {
+    if other == path {
+        return true;
+    }
+    store.file(other).is_none()
+}
+
 // Over a folder with one file alone it is refused, and nothing changes.
 fn is_refused(
     rt: &impl Abort,
@@ -92,10 +100,7 @@ fn is_refused(
     assert_eq!(rt; refused.inputs.len(), if asked.twice { 2 } else { 1 });
     assert_eq!(rt; refused.store.file(path), Some(bytes));
     for other in [JOURNAL, PROPERTIES, "t.work/tmp", "t.work/map-0"] {
-        assert!(rt;
-            other == path || refused.store.file(other).is_none(),
-            "{other}"
-        );
+        assert!(rt; is_absent(&refused.store, path, other), "{other}");
     }
     Ok(())
 }

@@ -130,18 +130,19 @@ fn second(alloc: Global) -> Result<MemSource, Fail> {
 pub(super) fn import_failing(
     alloc: Global,
     sky: Sky,
-    failing: [&[u64]; 2],
+    failing: &[u64],
+    failing_second: &[u64],
     store: MemStore,
 ) -> Result<Closed<MemSource, MemStore>, Fail> {
     let asked = settings_of(alloc, 0, 0, 1_000_000, 1)?;
     let mut a = first(alloc, sky)?;
-    a.fail_calls(failing[0])?;
+    a.fail_calls(failing)?;
     let inputs = with(Vec::new(alloc), a)?;
     match sky {
         Sky::OnePart => Ok(import_one(alloc, asked, inputs, store)),
         Sky::ThreeParts => {
             let mut b = second(alloc)?;
-            b.fail_calls(failing[1])?;
+            b.fail_calls(failing_second)?;
             let both = with(inputs, b)?;
             Ok(import_one(alloc, asked, both, store))
         }
@@ -154,7 +155,7 @@ pub(super) fn import(
     sky: Sky,
     store: MemStore,
 ) -> Result<Closed<MemSource, MemStore>, Fail> {
-    import_failing(alloc, sky, [&[], &[]], store)
+    import_failing(alloc, sky, &[], &[], store)
 }
 
 /// A new import of a sky.

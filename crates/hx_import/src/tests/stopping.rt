@@ -176,14 +176,21 @@ fn failing_input(
     rt: &impl Abort,
     alloc: Global,
     done: &MemStore,
-    failing: [&[u64]; 2],
+    failing: &[u64],
+    failing_second: &[u64],
     input: u32,
 ) -> Result<(), Fail> {
-    let failed = import_failing(alloc, Sky::ThreeParts, failing, MemStore::new(alloc))?;
+    let failed = import_failing(
+        alloc,
+        Sky::ThreeParts,
+        failing,
+        failing_second,
+        MemStore::new(alloc),
+    )?;
     assert_eq!(rt;
         failed.refusal,
         Some(Refusal::InputFault { input }),
-        "{failing:?}"
+        "{failing:?} {failing_second:?}"
     );
     assert_eq!(rt; (failed.rows, failed.partitions, failed.margin), (0, 0, 0));
     assert_eq!(rt; failed.inputs.len(), 2);
@@ -196,14 +203,15 @@ fn failing_input(
 fn inputs_that_fail(rt: HostRuntime) -> Result<(), Fail> {
     let done = whole(&rt, rt.alloc(), Sky::ThreeParts)?;
     for call in 0..OF_A_SOURCE {
-        failing_input(&rt, rt.alloc(), &done, [&[call], &[]], 0)?;
-        failing_input(&rt, rt.alloc(), &done, [&[], &[call]], 1)?;
+        failing_input(&rt, rt.alloc(), &done, &[call], &[], 0)?;
+        failing_input(&rt, rt.alloc(), &done, &[], &[call], 1)?;
     }
     // No further call is made.
     let ended = import_failing(
         rt.alloc(),
         Sky::ThreeParts,
-        [&[OF_A_SOURCE], &[OF_A_SOURCE]],
+        &[OF_A_SOURCE],
+        &[OF_A_SOURCE],
         MemStore::new(rt.alloc()),
     )?;
     assert_eq!(rt; ended.refusal, None);
