@@ -122,6 +122,11 @@ parquet_damage (parquet.Thrift at) = unread.Damaged at
 parquet_damage parquet.Memory = unread.Memory
 parquet_damage other = unread.Damaged 0
 
+-- where a file of rows is damaged whose columns are read so: at a Thrift refusal, else at its beginning
+abbrev pub damage_place : {X : Type 0} → Result X PqRefusal → ℕ
+damage_place (Err (parquet.Thrift at)) = at
+damage_place _ = 0
+
 -- the damage of a Parquet file that should have rows: it isn't read as the five columns; or they have no rows that are good, ascend and belong there
 abbrev pub IsRowsDamage : Bool → Pixel → List ℕ → ℕ → Type 0
 IsRowsDamage margin pixel bytes place =

@@ -22,7 +22,7 @@ pub use finished::{
 pub use laws::{lines_that_break_no_rule, lists_have_one_reading, properties_have_one_reading};
 pub use lists::{list_text, read_list};
 pub use opening::{Catalogue, open_catalogue};
-pub use parquet::ascend;
+pub use parquet::{ascend, damaged_at};
 pub use properties::{Properties, properties_text, read_properties};
 
 #[cfg(test)]

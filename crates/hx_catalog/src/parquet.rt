@@ -7,7 +7,7 @@ ghost use Rattle.hx_base.specs.Rows.{IsGood, row_cmp};
 ghost use Rattle.hx_base.specs.declared.row.Row.{Row as RowRecord};
 ghost use Rattle.hx_pqmeta.specs.Refusals.{AnswersOrWants};
 ghost use Rattle.hx_pqread.specs.Columns.{HaveRows, columns_in};
-ghost use Rattle.hx_catalog.specs.Answers.{IsRowsDamage, IsUnread, parquet_damage};
+ghost use Rattle.hx_catalog.specs.Answers.{IsRowsDamage, IsUnread, damage_place, parquet_damage};
 ghost use Rattle.hx_catalog.specs.Files.{Belong, HoldsRows};
 
 use hx_base::{Pixel, Row, SpillRefusal, column_names, compare_rows, row_of};
@@ -192,4 +192,22 @@ pub(crate) fn rows_of_file(
         return Err(SpillRefusal::Damaged { place: 0 });
     }
     Ok(rows)
+}
+
+/// Where a file is damaged that isn't read as rows, in bytes: at a Thrift fault, where the five columns are refused by one,
+/// and else at 0.
+///
+/// # Errors
+///
+/// Want of memory.
+pub fn damaged_at(alloc: Global, bytes: &[u8]) -> Result<u64, AllocError>
+    ensures { IfOk result (λ place. place ≡ damage_place (columns_in bytes.now column_names)) }
+{
+    let Err(refusal) = five_columns(alloc, bytes) else {
+        return Ok(0);
+    };
+    match unread(refusal) {
+        SpillRefusal::Damaged { place } => Ok(place),
+        SpillRefusal::Memory => Err(AllocError),
+    }
 }

@@ -1,5 +1,5 @@
 -- Answers on counts, and on sorted rows, as answers on rows.
-use Rattle.std.proofs.Common.{◌≡◌, ◌∙◌, ◌≤◌, ℕ, List, Result, Ok, Err, refl, sym, ap, subst}
+use Rattle.std.proofs.Common.{◌≡◌, ◌∙◌, ◌≤◌, ℕ, List, Result, Ok, Err, sym, subst}
 use Rattle.hx_align.specs.Plans.{totals_of}
 use Rattle.hx_align.specs.declared.refusal.AlignRefusal.TheVariants as align_refusal
 use Rattle.hx_base.specs.declared.pixel.Pixel.{Pixel}

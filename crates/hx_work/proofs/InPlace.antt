@@ -1,19 +1,17 @@
 -- Rows in order that are placed by their partitions are a split.
-use Rattle.std.proofs.Common.{◌≡◌, ◌∙◌, ◌==◌, ◌+◌, ◌<◌, ◌≤◌, ◌∷◌, ◌++◌, [], ℕ, zero, suc, List, Bool, true, false, Option, Some, None, filter, length, map, get_or, refl, sym, ap, subst, arith, inl, inr, slice_index_or, take}
+use Rattle.std.proofs.Common.{◌≡◌, ◌∙◌, ◌==◌, ◌+◌, ◌<◌, ◌≤◌, ◌∷◌, ◌++◌, [], ℕ, zero, suc, List, false, Option, Some, None, filter, length, map, get_or, refl, sym, ap, subst, arith, inl, inr, slice_index_or, take}
 use Rattle.std.specs.List.{All, AllByRecursion, AllPairs, slice_get}
 use Rattle.std.specs.List.Sorted.{IsSorted}
 use Rattle.std.specs.Ordering.{is_gt, is_lt, nat_cmp, ordering_reverse, ordering_then}
-use Rattle.std.specs.Prelude.{⊤}
 use Rattle.std.specs.declared.cmp.Ordering.{Ordering}
 use Rattle.std.specs.declared.cmp.Ordering.TheVariants.{Less, Equal, Greater}
 use Rattle.std.proofs.lemmas.Bool.{cases_eq, cases_order, eq-eqb, ne_eqb}
 use Rattle.std.proofs.lemmas.Bool.Decides.{nat_tests}
 use Rattle.std.proofs.lemmas.List.{append-nil, append_assoc, map-append, take_more}
-use Rattle.std.proofs.lemmas.List.Elements.{All-contains, All-from_recursion, filter-append, recursion_from_All}
+use Rattle.std.proofs.lemmas.List.Elements.{All-from_recursion, filter-append, recursion_from_All}
 use Rattle.std.proofs.lemmas.Map.Keys.{le_from_not_gt}
 use Rattle.std.proofs.lemmas.Option.{get_or_from_slice_get, slice_get_within}
-use Rattle.hx_base.specs.Contents.{partition_rows}
-use Rattle.hx_base.specs.Pixels.{AreDisjoint, AreDisjointInOrder, HoldsPosition, end_position, first_position, pixel_of, rows_in}
+use Rattle.hx_base.specs.Pixels.{AreDisjointInOrder, HoldsPosition, end_position, first_position, pixel_of, rows_in}
 use Rattle.hx_base.specs.Rows.{IsGood, row_cmp, sorted_rows}
 use Rattle.hx_base.specs.declared.pixel.Pixel.{Pixel}
 use Rattle.hx_base.specs.declared.row.Row.{Row}
@@ -21,7 +19,7 @@ use Rattle.hx_base.proofs.Ranges.{ascend, holds_range}
 use Rattle.hx_base.proofs.RowOrder.{rows_total}
 use Rattle.hx_ptree.specs.Searches.{IsHolder}
 use Rattle.hx_spill.specs.Splits.{placed_at, placed_cmp, slice}
-use Rattle.hx_spill.specs.Values.{ArePlaced, AreSplit}
+use Rattle.hx_spill.specs.Values.{AreSplit}
 use Rattle.hx_spill.specs.declared.split.Placed.{Placed}
 use Rattle.hx_spill.proofs.Counted.{rows_in-append}
 use Rattle.hx_spill.proofs.Order.{in_order}

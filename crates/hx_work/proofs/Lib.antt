@@ -1,3 +1,5 @@
 pub mod Sorted
 pub mod InPlace
 pub mod Answered
+mod InTwo
+pub mod ByPixel

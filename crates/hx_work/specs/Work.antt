@@ -2,7 +2,7 @@
 -- come in place of either.
 use Rattle.std.specs.Prelude.{◌≡◌, ◌≢◌, ◌<◌, ◌≤◌, ⊤, ℕ, List, Result, Ok, Err, Vec, length}
 use Rattle.std.specs.declared.alloc.Global.{Global}
-use Rattle.hx_align.specs.Plans.{HasPartitions, IsPlanOf, totals_of}
+use Rattle.hx_align.specs.Plans.{HasPartitions, IsPlanOf}
 use Rattle.hx_align.specs.declared.plan.PlanRow.{PlanRow}
 use Rattle.hx_align.specs.declared.refusal.AlignRefusal.{AlignRefusal}
 use Rattle.hx_align.specs.declared.refusal.AlignRefusal.TheVariants as align_refusal

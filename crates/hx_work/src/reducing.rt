@@ -5,7 +5,7 @@ ghost use Rattle.hx_pqwrite.specs.Files.{written_file};
 ghost use Rattle.hx_work.specs.Work.{IsReduced};
 
 use crate::refusal::WorkRefusal;
-use crate::sorting::sorted;
+use crate::sorting::merged;
 use hx_base::Row;
 use hx_pqwrite::write;
 use std::alloc::Global;
@@ -17,6 +17,6 @@ pub fn reduce_task(alloc: Global, rows: Vec<Row>) -> Result<Vec<u8>, WorkRefusal
     ensures value { IsReduced rows.items result }
     ensures bytes { IfOk result (λ bytes. bytes.items ≡ written_file (sorted_rows rows.items)) }
 {
-    let sorted = sorted(rows);
+    let sorted = merged(rows)?;
     Ok(write(alloc, &sorted)?)
 }

@@ -61,6 +61,6 @@ pub fn split_task(
     requires { IsCsvName name.now ⊎ IsParquetName name.now }
     ensures { IsSplit (rows_of name.now bytes.now) map.now (pixels_of plan.now) result }
 {
-    let rows = sorted(read_rows(alloc, name, bytes)?);
+    let rows = sorted(alloc, read_rows(alloc, name, bytes)?)?;
     split_sorted(alloc, &rows, map, plan)
 }

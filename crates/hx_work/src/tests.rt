@@ -3,6 +3,7 @@ ghost use Rattle.std.specs.Prelude.{◌≡◌, ◌≤◌, All, IfOk, IsTrue, ◌
 ghost use Rattle.hx_base.specs.Limits.{FitsLimits};
 ghost use Rattle.hx_base.specs.Rows.{IsGood};
 
+use super::sorting::{merged, sorted};
 use super::*;
 use hx_align::{Plan, PlanRow};
 use hx_base::{Name, Pixel, Row, Settings};
@@ -157,5 +158,47 @@ fn reduced_rows(rt: HostRuntime) -> Result<(), Fail> {
     let read = parquet_rows(alloc, &bytes).map_err(|_| "unread")?;
     let wanted = [first, second, second, third];
     assert_eq!(rt; read.as_slice(), wanted.as_slice());
+    Ok(())
+}
+
+// As many positions, by so much.
+const POSITIONS: u64 = 5000;
+
+const STEP: u64 = 691_752_902_764_108;
+
+// Whether there are two rows at each position, in their order.
+fn is_each_twice(rows: &[Row]) -> bool {
+    let count = rows.len() as u64;
+    let mut places = (0u64..).zip(rows);
+    count == 2 * POSITIONS && places.all(|(i, row)| row.hp == i / 2 * STEP)
+}
+
+#[test]
+fn many_rows(rt: HostRuntime) -> Result<(), Fail> {
+    let alloc = rt.alloc();
+    let mut rows = Vec::new(alloc);
+    for i in 0..2 * POSITIONS {
+        rows.push(row(7, i * 7919 % POSITIONS * STEP, ONE, 0))?;
+    }
+    assert!(rt; all_good(&rows));
+    let ascending = sorted(alloc, rows)?;
+    assert!(rt; is_each_twice(&ascending));
+    assert!(rt; all_good(&ascending));
+    let again = sorted(alloc, ascending)?;
+    assert!(rt; is_each_twice(&again));
+    Ok(())
+}
+
+#[test]
+fn runs(rt: HostRuntime) -> Result<(), Fail> {
+    let alloc = rt.alloc();
+    let mut rows = Vec::new(alloc);
+    for _ in 0..2 {
+        for i in 0..POSITIONS {
+            rows.push(row(7, i * STEP, ONE, 0))?;
+        }
+    }
+    assert!(rt; all_good(&rows));
+    assert!(rt; is_each_twice(&merged(rows)?));
     Ok(())
 }

@@ -1,5 +1,4 @@
-use Rattle.std.proofs.Common.{◌≡◌, take}
-use Rattle.hx_align.specs.Plans.{pixels_of}
+use Rattle.std.proofs.Common.{take}
 use Rattle.hx_work.specs.Places.{Places}
 use Rattle.hx_work.proofs.placing.placed_rows.Given as goal
 

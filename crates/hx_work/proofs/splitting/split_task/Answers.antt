@@ -9,6 +9,6 @@ use Rattle.hx_work.proofs.splitting.split_task.Goals as goal
 pub returns : goal.returns
 returns c =
     let parts = pixels_of c.args.plan.now in
-    let same = c.deref.ensures.value ∙ c.sorted-rows.ensures.rows in
+    let same = c.deref.ensures.value ∙ c.in_ok-rows.ensures.rows in
     let split = subst (λ (rows : List Row). IsSplit (Ok rows) c.args.map.now (pixels_of c.args.plan.now) c.split_sorted.result) same c.split_sorted.ensures in
     split_rows (rows_of c.args.name.now c.args.bytes.now) c.in_ok-read_rows.field-0.items c.args.map.now parts c.split_sorted.result c.in_ok-read_rows.ensures.exact split
