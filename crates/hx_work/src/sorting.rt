@@ -13,23 +13,24 @@ const PIXELS: usize = 768;
 // Fewer rows than these are sorted in one go.
 const MANY: usize = 4096;
 
-// A list without rows for each pixel of order 3.
-fn no_rows(alloc: Global) -> Result<Vec<Vec<Row>>, AllocError>
+// A list without rows for each pixel of order 3, with room for so many.
+fn no_rows(alloc: Global, room: usize) -> Result<Vec<Vec<Row>>, AllocError>
     ensures { IfOk result (λ lists. AreByPixel [] (map (λ list. list.items) lists.items)) }
 {
     let mut lists = Vec::with_capacity(alloc, PIXELS)?;
     for _ in 0..PIXELS {
-        lists.push(Vec::new(alloc))?;
+        lists.push(Vec::with_capacity(alloc, room)?)?;
     }
     Ok(lists)
 }
 
-// The rows of each pixel of order 3.
+// The rows of each pixel of order 3. There is room for half as many again as there are where they lie evenly.
 fn by_pixel(alloc: Global, rows: &[Row]) -> Result<Vec<Vec<Row>>, AllocError>
     requires { All IsGood rows.now }
     ensures { IfOk result (λ lists. AreByPixel rows.now (map (λ list. list.items) lists.items)) }
 {
-    let mut lists = no_rows(alloc)?;
+    let room = rows.len() / PIXELS * 3 / 2;
+    let mut lists = no_rows(alloc, room)?;
     for row in rows {
         let pixel = Pixel::holding(3, row.hp);
         lists[pixel.number as usize].push(*row)?;
