@@ -3,3 +3,4 @@ pub mod InPlace
 pub mod Answered
 mod InTwo
 pub mod ByPixel
+pub mod AsCounted

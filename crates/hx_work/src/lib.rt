@@ -2,6 +2,7 @@
 //! rows, plan cuts all counts into partitions, split tells an input's rows by partition, reduce makes a partition's file.
 #![tactic(auto)]
 
+mod counting;
 mod mapping;
 mod placing;
 mod planning;

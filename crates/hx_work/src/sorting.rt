@@ -7,13 +7,13 @@ ghost use Rattle.hx_work.specs.Sorting.{AreByPixel};
 use hx_base::{Pixel, Row, sort_rows};
 use std::alloc::{AllocError, Global};
 
-// How many pixels of order 3 there are.
-const PIXELS: usize = 768;
+// How many pixels of order 4 there are.
+const PIXELS: usize = 3072;
 
 // Fewer rows than these are sorted in one go.
 const MANY: usize = 4096;
 
-// A list without rows for each pixel of order 3, with room for so many.
+// A list without rows for each pixel of order 4, with room for so many.
 fn no_rows(alloc: Global, room: usize) -> Result<Vec<Vec<Row>>, AllocError>
     ensures { IfOk result (λ lists. AreByPixel [] (map (λ list. list.items) lists.items)) }
 {
@@ -24,7 +24,7 @@ fn no_rows(alloc: Global, room: usize) -> Result<Vec<Vec<Row>>, AllocError>
     Ok(lists)
 }
 
-// The rows of each pixel of order 3. There is room for half as many again as there are where they lie evenly.
+// The rows of each pixel of order 4. There is room for half as many again as there are where they lie evenly.
 fn by_pixel(alloc: Global, rows: &[Row]) -> Result<Vec<Vec<Row>>, AllocError>
     requires { All IsGood rows.now }
     ensures { IfOk result (λ lists. AreByPixel rows.now (map (λ list. list.items) lists.items)) }
@@ -32,7 +32,7 @@ fn by_pixel(alloc: Global, rows: &[Row]) -> Result<Vec<Vec<Row>>, AllocError>
     let room = rows.len() / PIXELS * 3 / 2;
     let mut lists = no_rows(alloc, room)?;
     for row in rows {
-        let pixel = Pixel::holding(3, row.hp);
+        let pixel = Pixel::holding(4, row.hp);
         lists[pixel.number as usize].push(*row)?;
     }
     Ok(lists)
@@ -46,7 +46,7 @@ fn in_order(mut rows: Vec<Row>) -> Vec<Row>
     rows
 }
 
-// Rows in ascending order, sorted in each pixel of order 3 by themselves.
+// Rows in ascending order, sorted in each pixel of order 4 by themselves.
 fn sorted_by_pixel(alloc: Global, rows: &[Row]) -> Result<Vec<Row>, AllocError>
     requires { All IsGood rows.now }
     ensures { IfOk result (λ sorted. sorted.items ≡ sorted_rows rows.now) }
@@ -58,7 +58,7 @@ fn sorted_by_pixel(alloc: Global, rows: &[Row]) -> Result<Vec<Row>, AllocError>
     Ok(sorted)
 }
 
-// Good rows in ascending order. Many that don't ascend are told by their pixel of order 3 first, so that what is sorted
+// Good rows in ascending order. Many that don't ascend are told by their pixel of order 4 first, so that what is sorted
 // is short.
 fn all_in_order(alloc: Global, rows: Vec<Row>) -> Result<Vec<Row>, AllocError>
     requires { All IsGood rows.items }

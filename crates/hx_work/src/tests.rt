@@ -170,7 +170,7 @@ const STEP: u64 = 691_752_902_764_108;
 fn is_each_twice(rows: &[Row]) -> bool {
     let count = rows.len() as u64;
     let mut places = (0u64..).zip(rows);
-    count == 2 * POSITIONS && places.all(|(i, row)| row.hp == i / 2 * STEP)
+    count == 2 * POSITIONS && places.all(|(i, row)| row.hp == (i / 2).wrapping_mul(STEP))
 }
 
 #[test]
