@@ -13,5 +13,6 @@ pub mod Handed
 pub mod Written
 pub mod Totals
 pub mod Numbers
+pub mod Placed
 pub mod Firsts
 mod Tested

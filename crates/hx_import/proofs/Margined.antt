@@ -1,11 +1,12 @@
 -- The files of a partition's rows in margins, and of its margin.
-use Rattle.std.proofs.Common.{◌≡◌, ◌<◌, ◌≤◌, ◌==◌, ◌*◌, ◌^◌, ◌∷◌, ◌∙◌, ℕ, suc, List, [], Some, Ok, Err, All, IfOk, get_or, length, slice_get, refl, sym, ap, subst, arith, inl, inr}
+use Rattle.std.proofs.Common.{◌≡◌, ◌<◌, ◌≤◌, ◌==◌, ◌*◌, ◌^◌, ◌∷◌, ◌∙◌, ℕ, ℤ, suc, List, Result, [], Some, Ok, Err, All, IfOk, get_or, length, slice_get, refl, sym, ap, subst, arith, inl, inr}
 use Rattle.std.specs.List.{Any}
 use Rattle.std.specs.List.Sorted.{IsSorted}
 use Rattle.std.proofs.lemmas.Bool.{cases_Bool}
 use Rattle.std.proofs.lemmas.Bool.Decides.{Decides-eqb}
 use Rattle.hx_align.specs.Plans.{pixels_of}
 use Rattle.hx_align.specs.declared.plan.PlanRow.{PlanRow}
+use Rattle.hx_base.specs.Columns.{◌>>=◌, column_names}
 use Rattle.hx_base.specs.Contents.{AreMarginRows, partition_rows}
 use Rattle.hx_base.specs.Limits.{FitsLimits, most_rows}
 use Rattle.hx_base.specs.Partitions.{ArePartitions, NothingOverfull, holders_of}
@@ -17,7 +18,10 @@ use Rattle.hx_base.specs.declared.row.Row.{Row}
 use Rattle.hx_margin.specs.Around.{AreAround}
 use Rattle.hx_margin.proofs.Placing.{rows_held}
 use Rattle.hx_margin.proofs.Whole.{gathered_margin}
-use Rattle.hx_rows.specs.Parquet.{parquet_rows}
+use Rattle.hx_pqmeta.specs.declared.refusal.PqRefusal.{PqRefusal}
+use Rattle.hx_pqread.specs.Columns.{columns_in}
+use Rattle.hx_catalog.specs.Answers.{damage_place}
+use Rattle.hx_rows.specs.Parquet.{in_file, parquet_rows, rows_of_columns}
 use Rattle.hx_spill.specs.Values.{IsMarginSplitFile}
 use Rattle.hx_work.specs.Work.{IsReduced, Work}
 use Rattle.hx_book.specs.Books.{JobMembers, job_of}
@@ -35,6 +39,15 @@ part_reads job bytes number row why value fault =
     let rows = value.holds.holds in
     let both = sym rows.read ∙ fault in
     cc both
+
+-- a file that is read as rows is damaged at its beginning alone
+pub no_fault : (bytes : List ℕ) (rows : List Row) → parquet_rows bytes ≡ Ok rows → damage_place (columns_in bytes column_names) ≡ 0
+unfolding parquet_rows
+no_fault bytes rows is = by (columns_in bytes column_names) is
+  where
+    by : (read : Result (List (List ℤ)) PqRefusal) → (in_file read >>= rows_of_columns) ≡ Ok rows → damage_place read ≡ 0
+    by (Ok lists) e = refl
+    by (Err fault) e = cc e
 
 module _ (j : JobMembers) (number : ℕ) (part : Pixel) (bytes : List ℕ) (rows : List Row) (reads : parquet_rows bytes ≡ Ok rows) (value : j.premises → IsFileOf (job_of j) bytes (file.Part number))
     (plan : List PlanRow) (parts : List Pixel) (cut : IsCutFor j plan parts) (there : slice_get parts number ≡ Some part) where

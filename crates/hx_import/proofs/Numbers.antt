@@ -58,7 +58,7 @@ no_counts : (pixels : List Pixel) → sum_by (λ pixel. count_in pixel []) pixel
 no_counts [] = refl
 no_counts (p ∷ ps) = omega (arith, sum_by-cons (λ pixel. count_in pixel []) p ps, no_counts ps)
 
-all_counted : (rows : List Row) (pixels : List Pixel) → All (λ row. length (holders_of row.hp pixels) ≡ 1) rows → sum_by (λ pixel. count_in pixel rows) pixels ≡ length rows
+pub all_counted : (rows : List Row) (pixels : List Pixel) → All (λ row. length (holders_of row.hp pixels) ≡ 1) rows → sum_by (λ pixel. count_in pixel rows) pixels ≡ length rows
 all_counted [] pixels each = no_counts pixels
 all_counted (row ∷ rows) pixels each =
     let rest = all_counted rows pixels (λ k d less. each (suc k) d (omega (arith, less))) in
@@ -66,16 +66,19 @@ all_counted (row ∷ rows) pixels each =
     let sum = sums_add (λ pixel. if holds row pixel then 1 else 0) (λ pixel. count_in pixel rows) (λ pixel. count_in pixel (row ∷ rows)) pixels (counts_row row rows) in
     omega (arith, rest, one, sum, counts_holders row pixels)
 
-sorted_alike : (all : List Row) (pixels : List Pixel) → sum_by (λ pixel. length (partition_rows pixel all)) pixels ≡ sum_by (λ pixel. count_in pixel all) pixels
+pub sorted_alike : (all : List Row) (pixels : List Pixel) → sum_by (λ pixel. length (partition_rows pixel all)) pixels ≡ sum_by (λ pixel. count_in pixel all) pixels
 sorted_alike all [] = refl
 sorted_alike all (p ∷ ps) = omega (arith, sum_by-cons (λ pixel. length (partition_rows pixel all)) p ps, sum_by-cons (λ pixel. count_in pixel all) p ps, length_sorted (rows_in p all), sorted_alike all ps)
 
-pub rows_of_parts : EachOnce → (job : JobData) (all : List Row) (plan : List PlanRow) → FitsLimits job.settings → IsCut job all plan → sum_by (λ pixel. length (partition_rows pixel all)) (pixels_of plan) ≡ length all
-rows_of_parts once job all plan limits cut =
+-- each row lies in one partition
+pub each_held : EachOnce → (job : JobData) (all : List Row) (plan : List PlanRow) → FitsLimits job.settings → IsCut job all plan → All (λ row. length (holders_of row.hp (pixels_of plan)) ≡ 1) all
+each_held once job all plan limits cut =
     let s = job.settings in
     let good = all_good (names_of job) (contents_of job) all cut.read in
-    let each = once all s.lowest s.highest s.threshold (pixels_of plan) (λ k d less. (good k d less).pixel) limits.lowest (omega (arith, limits.highest)) cut.planned.fits cut.planned.partitions.partitions in
-    sorted_alike all (pixels_of plan) ∙ all_counted all (pixels_of plan) each
+    once all s.lowest s.highest s.threshold (pixels_of plan) (λ k d less. (good k d less).pixel) limits.lowest (omega (arith, limits.highest)) cut.planned.fits cut.planned.partitions.partitions
+
+pub rows_of_parts : EachOnce → (job : JobData) (all : List Row) (plan : List PlanRow) → FitsLimits job.settings → IsCut job all plan → sum_by (λ pixel. length (partition_rows pixel all)) (pixels_of plan) ≡ length all
+rows_of_parts once job all plan limits cut = sorted_alike all (pixels_of plan) ∙ all_counted all (pixels_of plan) (each_held once job all plan limits cut)
 
 -- ---- what records tell
 
@@ -102,7 +105,7 @@ margin_told job r has own =
 counted_rows : (bytes : List ℕ) (rows : List Row) → parquet_rows bytes ≡ Ok rows → count_read length (parquet_rows bytes) ≡ length rows
 counted_rows bytes rows is = ap (count_read length) is
 
-abbrev any : Pixel
+abbrev pub any : Pixel
 any = record { order = 0; number = 0 }
 
 module _ (job : JobData) (all : List Row) (plan : List PlanRow) (cut : IsCut job all plan) (records : List Record) (follow : Follow job [] (done_of records)) (numbers : (r : Record) → Contains records r → HasNumber job r) where

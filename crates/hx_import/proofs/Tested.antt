@@ -1,5 +1,5 @@
 -- What tests know of the inputs that they make.
-use Rattle.std.proofs.Common.{◌≡◌, ◌++◌, ◌∷◌, [], ℕ, zero, suc, List, All, arith, length, map, subst, sym}
+use Rattle.std.proofs.Common.{◌++◌, ◌∷◌, [], ℕ, zero, suc, List, All, arith, map, subst, sym}
 use Rattle.std.proofs.lemmas.List.{map-append}
 use Rattle.std.proofs.lemmas.List.Elements.{All-append}
 

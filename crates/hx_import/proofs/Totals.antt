@@ -13,39 +13,39 @@ use Rattle.hx_book.proofs.Steps.{cons_cases, done_from, done_has}
 
 -- ---- sums below a number
 
-abbrev below : (ℕ → ℕ) → ℕ → ℕ
+abbrev pub below : (ℕ → ℕ) → ℕ → ℕ
 below f zero = 0
 below f (suc n) = f 0 + below (λ k. f (suc k)) n
 
-below_add : (f g : ℕ → ℕ) (n : ℕ) → below (λ k. f k + g k) n ≡ below f n + below g n
+pub below_add : (f g : ℕ → ℕ) (n : ℕ) → below (λ k. f k + g k) n ≡ below f n + below g n
 below_add f g zero = refl
 below_add f g (suc n) = omega (arith, below_add (λ k. f (suc k)) (λ k. g (suc k)) n)
 
-below_none : (f : ℕ → ℕ) (n : ℕ) → ((k : ℕ) → k < n → f k ≡ 0) → below f n ≡ 0
+pub below_none : (f : ℕ → ℕ) (n : ℕ) → ((k : ℕ) → k < n → f k ≡ 0) → below f n ≡ 0
 below_none f zero none = refl
 below_none f (suc n) none = omega (arith, none 0 (omega arith), below_none (λ k. f (suc k)) n (λ k less. none (suc k) (omega (arith, less))))
 
-below_same : (f g : ℕ → ℕ) (n : ℕ) → ((k : ℕ) → k < n → f k ≡ g k) → below f n ≡ below g n
+pub below_same : (f g : ℕ → ℕ) (n : ℕ) → ((k : ℕ) → k < n → f k ≡ g k) → below f n ≡ below g n
 below_same f g zero same = refl
 below_same f g (suc n) same = omega (arith, same 0 (omega arith), below_same (λ k. f (suc k)) (λ k. g (suc k)) n (λ k less. same (suc k) (omega (arith, less))))
 
 -- where one number counts
-below_one : (f : ℕ → ℕ) (n m : ℕ) → m < n → ((k : ℕ) → k < n → (k ≡ m → ⊥) → f k ≡ 0) → below f n ≡ f m
+pub below_one : (f : ℕ → ℕ) (n m : ℕ) → m < n → ((k : ℕ) → k < n → (k ≡ m → ⊥) → f k ≡ 0) → below f n ≡ f m
 below_one f zero m less others = absurd (omega (arith, less))
 below_one f (suc n) zero less others = omega (arith, below_none (λ k. f (suc k)) n (λ k small. others (suc k) (omega (arith, small)) (λ e. omega (arith, e))))
 below_one f (suc n) (suc m) less others =
     omega (arith, others 0 (omega arith) (λ e. omega (arith, e)), below_one (λ k. f (suc k)) n m (omega (arith, less)) (λ k small other. others (suc k) (omega (arith, small)) (λ e. other (omega (arith, e)))))
 
-below_list : {X : Type 0} (f : X → ℕ) (xs : List X) (d : X) → below (λ k. f (get_or xs k d)) (length xs) ≡ sum_by f xs
+pub below_list : {X : Type 0} (f : X → ℕ) (xs : List X) (d : X) → below (λ k. f (get_or xs k d)) (length xs) ≡ sum_by f xs
 below_list f [] d = refl
 below_list f (x ∷ xs) d = omega (arith, sum_by-cons f x xs, below_list f xs d)
 
 -- ---- records by their numbers
 
-if_same : (m n c : ℕ) → m ≡ n → (if m == n then c else 0) ≡ c
+pub if_same : (m n c : ℕ) → m ≡ n → (if m == n then c else 0) ≡ c
 if_same m n c same = rw (eq-eqb m n same) refl
 
-if_other : (m n c : ℕ) → (m ≡ n → ⊥) → (if m == n then c else 0) ≡ 0
+pub if_other : (m n c : ℕ) → (m ≡ n → ⊥) → (if m == n then c else 0) ≡ 0
 if_other m n c other = elim (cases_Bool (m == n)) [ inl is ↦ absurd (other ((Decides-eqb m n).0 is)) | inr not ↦ rw not refl ]
 
 -- what the records of a number tell

@@ -1,5 +1,5 @@
 -- What the tasks of an import work on, in the words of the job: under its premises, and where these don't hold what can be known all the same.
-use Rattle.std.specs.Prelude.{◌≡◌, ◌<◌, ◌≤◌, ℕ, List, All, IfSome, IsSome, Some, length, slice_get, sum_by, take}
+use Rattle.std.specs.Prelude.{◌≡◌, ◌<◌, ◌≤◌, ℕ, List, All, IfSome, IsSome, Ok, Some, length, slice_get, sum_by, take}
 use Rattle.std.specs.List.{flat_map, slice_range}
 use Rattle.hx_align.specs.Plans.{pixels_of}
 use Rattle.hx_align.specs.declared.plan.PlanRow.{PlanRow}
@@ -15,7 +15,10 @@ use Rattle.hx_book.specs.Values.{AreMargins, OfCut, OfPart}
 use Rattle.hx_hist.specs.Histograms.{Histogram}
 use Rattle.hx_inputs.specs.Inputs.{AreRows}
 use Rattle.hx_margin.specs.Slices.{AreSlices}
+use Rattle.hx_rows.specs.Reading.{rows_of}
+use Rattle.hx_spill.specs.Splits.{split_in}
 use Rattle.hx_spill.specs.Values.{AreCountsOf}
+use Rattle.hx_spill.specs.declared.split.Placed.{Placed}
 
 -- under the premises the inputs tell their bytes
 abbrev pub InputsTell : JobMembers → Type 0
@@ -59,6 +62,10 @@ pub record IsCutFor (j : JobMembers) (plan : List PlanRow) (parts : List Pixel) 
   pub pixels : parts ≡ pixels_of plan
   pub orders : All (λ part. part.order < j.settings.margin_order) parts
   pub cut : j.premises → (all : List Row) × IsCut (job_of j) all plan
+
+-- a split file has as many rows as the input
+abbrev pub HasAllRows : (name bytes file : List ℕ) → Type 0
+HasAllRows name bytes file = (rows : List Row) → rows_of name bytes ≡ Ok rows → (placed : List Placed) × (split_in file ≡ Ok placed) × (length placed ≡ length rows)
 
 -- what was gathered is, sorted, the rows of the first inputs that a partition contains
 pub record GathersFirst (job : JobData) (number n : ℕ) (gathered : List Row) : Type 0 where

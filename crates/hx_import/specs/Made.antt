@@ -1,10 +1,14 @@
 -- What the tasks of an import answer.
-use Rattle.std.specs.Prelude.{⊤, ℕ}
+use Rattle.std.specs.Prelude.{◌≡◌, ◌⊎◌, ⊤, ℕ, List}
+use Rattle.hx_base.specs.Columns.{column_names}
 use Rattle.hx_base.specs.Limits.{most_partitions}
 use Rattle.hx_base.specs.declared.refusal.JobFile.{JobFile}
+use Rattle.hx_base.specs.declared.refusal.JobFile.TheVariants as job_file
 use Rattle.hx_base.specs.declared.refusal.Refusal.{Refusal}
 use Rattle.hx_base.specs.declared.refusal.Refusal.TheVariants as refusal
 use Rattle.hx_base.specs.declared.task.Task.{Task}
+use Rattle.hx_pqread.specs.Columns.{columns_in}
+use Rattle.hx_catalog.specs.Answers.{damage_place}
 use Rattle.hx_book.specs.Books.{IsTaskCause, JobMembers}
 use Rattle.hx_work.specs.declared.refusal.WorkRefusal.{WorkRefusal}
 use Rattle.hx_work.specs.declared.refusal.WorkRefusal.TheVariants as work
@@ -29,3 +33,7 @@ refusal_of input (work.TooMany found) = refusal.TooMany 3 found most_partitions
 -- a file of the job is damaged at a place
 abbrev pub damaged : JobFile → ℕ → Refusal
 damaged file place = refusal.Damaged 1 file place
+
+-- a partition's file is refused: at its place of damage, or for want of memory
+abbrev pub IsPartRefused : ℕ → List ℕ → Refusal → Type 0
+IsPartRefused number bytes r = (r ≡ refusal.Memory) ⊎ (r ≡ damaged (job_file.Part number) (damage_place (columns_in bytes column_names)))

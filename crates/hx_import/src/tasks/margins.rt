@@ -9,7 +9,7 @@ ghost use Rattle.hx_book.specs.Books.{job_of};
 ghost use Rattle.hx_book.specs.Tasks.{task};
 ghost use Rattle.hx_book.specs.Values.{IsFileOf};
 ghost use Rattle.hx_import.specs.Given.{GathersAround, IsCutFor};
-ghost use Rattle.hx_import.specs.Made.{IsUnread};
+ghost use Rattle.hx_import.specs.Made.{IsPartRefused, IsUnread};
 ghost use Rattle.hx_margin.specs.Around.{AreAround};
 ghost use Rattle.hx_rows.specs.Parquet.{parquet_rows};
 
@@ -17,7 +17,7 @@ use crate::tasks::cutting::Cut;
 use crate::tasks::damaged;
 use hx_base::{JobFile, MOST_ROWS, Pixel, Refusal, Row, Settings, partitions_of_rows};
 use hx_book::Job;
-use hx_catalog::ascend;
+use hx_catalog::{ascend, damaged_at};
 use hx_margin::{margin_split, parts_around};
 use hx_rows::{RowRefusal, read_rows};
 use hx_work::reduce_task;
@@ -36,12 +36,16 @@ fn rows_in_file<J: Job>(alloc: Global, bytes: &[u8], number: u32) -> Result<Vec<
     requires file { J.of.premises → IsFileOf (job_of J.of) bytes.now (Part number) }
     ensures rows { IfOk result (λ rows. parquet_rows bytes.now ≡ Ok rows.items) }
     ensures good { IfOk result (λ rows. All IsGood rows.items) }
+    ensures place { IfErr result (IsPartRefused number bytes.now) }
     ensures cause { IfErr result (IsUnread J.of) }
 {
     match read_rows(alloc, ".parquet", bytes) {
         Ok(rows) => Ok(rows),
         Err(RowRefusal::Memory) => Err(Refusal::Memory),
-        Err(RowRefusal::Bad { .. }) => Err(damaged(JobFile::Part(number), 0)),
+        Err(RowRefusal::Bad { .. }) => {
+            let place = damaged_at(alloc, bytes)?;
+            Err(damaged(JobFile::Part(number), place))
+        }
     }
 }
 
@@ -51,7 +55,7 @@ fn rows_in_file<J: Job>(alloc: Global, bytes: &[u8], number: u32) -> Result<Vec<
 /// # Errors
 ///
 /// `Damaged`, which under the premises never comes, where the file has no rows, or rows that the partition doesn't contain
-/// or that don't ascend. `Memory`.
+/// or that don't ascend: at the place of a Thrift fault, else at 0. `Memory`.
 pub fn margin_split_file<J: Job>(
     alloc: Global,
     bytes: &[u8],
@@ -66,6 +70,7 @@ pub fn margin_split_file<J: Job>(
     requires cut { IsCutFor J.of cut.now.plan cut.now.tree }
     requires part { slice_get cut.now.tree number ≡ Some part }
     ensures value { IfOk result (λ file. J.of.premises → IsFileOf (job_of J.of) file.items (MarginSplit number)) }
+    ensures place { IfErr result (IsPartRefused number bytes.now) }
     ensures cause { IfErr result (IsUnread J.of) }
 {
     let rows = rows_in_file::<J>(alloc, bytes, number)?;

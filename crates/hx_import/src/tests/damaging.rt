@@ -101,6 +101,8 @@ const PLANS: &[(JobFile, Harm, u64)] = &[
     // Fewer partitions than were recorded, and an order above the highest.
     (JobFile::Plan, Harm::Bytes(SHORT_PLAN), 0),
     (JobFile::Plan, Harm::Bytes(DEEP_PLAN), 0),
+    // A partition of another pixel, so that none contains a row of the first input.
+    (JobFile::Plan, Harm::Byte(56, 2), 0),
 ];
 
 // Split files: magic 0, parts 4; the parts 12 and 32, each its number, the rows before it 4 behind, its rows 12 behind;
@@ -127,6 +129,8 @@ const PARTS: &[(JobFile, Harm, u64)] = &[
     (JobFile::Part(1), Harm::Gone, 0),
     (JobFile::Part(0), Harm::Byte(0, b'p'), 0),
     (JobFile::Part(2), Harm::Cut(11), 0),
+    // The header of the first page.
+    (JobFile::Part(0), Harm::Byte(4, 0x1d), 4),
     // Rows that lie in another partition.
     (JobFile::Part(0), Harm::As(PART_1), 0),
 ];
@@ -325,6 +329,24 @@ fn splits_with_other_rows(rt: HostRuntime) -> Result<(), Fail> {
         SPLIT,
         "t.work/split-0",
         Harm::Byte(59, 5),
+        damaged,
+    )
+}
+
+// So does a plan with a partition of another pixel, once the rows are told by partition.
+#[test]
+fn plans_of_other_pixels(rt: HostRuntime) -> Result<(), Fail> {
+    let damaged = Refusal::Damaged {
+        side: 1,
+        file: JobFile::Part(2),
+        place: 0,
+    };
+    is_refused(
+        &rt,
+        rt.alloc(),
+        SPLIT,
+        "t.work/plan",
+        Harm::Byte(56, 2),
         damaged,
     )
 }
